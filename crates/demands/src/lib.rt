@@ -1,0 +1,1 @@
+// What the user must be certain of, as definitions.

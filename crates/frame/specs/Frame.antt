@@ -1,0 +1,50 @@
+-- What the frame must be: eight tests, in order.
+use Prim.Native.Nat.{ℕ}
+use mathlib.Core.Bool.{Bool, true, false, not, _&&_, _||_}
+use mathlib.Core.List.{List, [], _∷_, _++_}
+use lib.ListN.{length, take, drop}
+use lib.Dec.{eqb, ltb}
+use Rattle.text.specs.Bytes.{Text, bytes, cr, printable, empty, every, some, same}
+use Rattle.text.specs.Answer.{Test, test, passes}
+use Rattle.text.specs.Marks.{Marks, marksOf}
+use Rattle.text.specs.declared.refusal.Refusal.the-variants.{Empty, TooLong, BadByte, NoHeader, NoEnd, BadSegment, SecondHeader, TooMany}
+use Rattle.frame.specs.Segments.{segments, isName, isHeader}
+
+-- 20 to 7E hex and CR
+abbrev pub allowed : ℕ → Bool
+allowed b = printable b || eqb b cr
+
+-- MSH, the five separators, and the field separator again
+abbrev pub header : Marks → Text
+header q =
+    bytes "MSH" ++ (q .field ∷ q .component ∷ q .repetition ∷ q .escape ∷ q .subcomponent ∷ q .field ∷ [])
+
+unfoldable pub endsWithCR : Text → Bool
+endsWithCR [] = false
+endsWithCR (b ∷ []) = eqb b cr
+endsWithCR (b ∷ c ∷ t) = endsWithCR (c ∷ t)
+
+-- a segment: a name, then its end or the field separator
+abbrev pub opens : Marks → Text → Bool
+opens q [] = true
+opens q (b ∷ t) = eqb b (q .field)
+
+abbrev pub isSegment : Marks → Text → Bool
+isSegment q s = isName (take 3 s) && opens q (drop 3 s)
+
+-- THE EIGHT TESTS
+unfoldable pub frameTests : Text → List Test
+frameTests m =
+    test Empty (empty m)
+    ∷ test TooLong (ltb 65535 (length m))
+    ∷ test BadByte (not (every allowed m))
+    ∷ test NoHeader (not (same (take 9 m) (header (marksOf m))))
+    ∷ test NoEnd (not (endsWithCR m))
+    ∷ test BadSegment (not (every (isSegment (marksOf m)) (segments m)))
+    ∷ test SecondHeader (some isHeader (drop 1 (segments m)))
+    ∷ test TooMany (ltb 512 (length (segments m)))
+    ∷ []
+
+-- a message with a good frame
+abbrev pub framed : Text → Bool
+framed m = passes (frameTests m)

@@ -1,0 +1,1 @@
+// What the frame of a message must be, as definitions.

@@ -1,0 +1,5 @@
+pub mod Table
+pub mod Lists
+pub mod Rows
+pub mod Profile
+pub mod Numbers

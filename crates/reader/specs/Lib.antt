@@ -1,0 +1,5 @@
+pub mod Place
+pub mod LookUp
+pub mod View
+pub mod Fault
+pub mod Line

@@ -1,0 +1,1 @@
+// Places, look-up and judging, as definitions.

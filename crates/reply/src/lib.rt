@@ -1,0 +1,1 @@
+// The acknowledgement, as a definition.

@@ -1,0 +1,3 @@
+pub mod Slip
+pub mod Book
+pub mod Read

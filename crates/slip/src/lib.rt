@@ -1,0 +1,1 @@
+// The slip book, as definitions.

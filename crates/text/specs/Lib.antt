@@ -1,0 +1,5 @@
+pub mod Bytes
+pub mod Answer
+pub mod Marks
+pub mod Escape
+pub mod Types
