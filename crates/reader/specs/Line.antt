@@ -1,4 +1,4 @@
--- The desk's line: accepted; refused and the number; or fault, the place's name and five numbers, condition, reason.
+-- What the desk's programs print, one line an answer.
 use Prim.Native.Nat.{ℕ, zero, suc, _+_, _/_, _%_}
 use mathlib.Core.Bool.{Bool, true, false}
 use mathlib.Core.List.{List, [], _∷_, _++_}
@@ -8,6 +8,7 @@ use Rattle.text.specs.Answer.{Answer, refused, given, numberOf}
 use Rattle.text.specs.declared.refusal.Refusal.{Refusal}
 use Rattle.parts.specs.Split.{join}
 use Rattle.reader.specs.Place.{Place}
+use Rattle.reader.specs.LookUp.{Found, Empty, Text-from-to}
 use Rattle.reader.specs.Fault.{Verdict, accepted, fault, condition}
 
 -- a number's digits before those that are written already, at most so many of them
@@ -38,7 +39,17 @@ faultLine p n =
     ∷ decimal n
     ∷ [])
 
+-- JUDGING: accepted; refused and the number; or fault, the place's name and five numbers, condition, reason
 abbrev pub deskLine : Answer Verdict → Text
 deskLine (refused r) = refusedLine r
 deskLine (given accepted) = bytes "accepted"
 deskLine (given (fault p n)) = faultLine p n
+
+-- LOOKING UP: empty; refused and the number; or text, its start and its end
+unfoldable pub textLine : ℕ → ℕ → Text
+textLine a e = join (byte " ") (bytes "text" ∷ decimal a ∷ decimal e ∷ [])
+
+abbrev pub lookLine : Answer Found → Text
+lookLine (refused r) = refusedLine r
+lookLine (given Empty) = bytes "empty"
+lookLine (given (Text-from-to a e)) = textLine a e

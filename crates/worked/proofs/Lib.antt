@@ -1,1 +1,4 @@
+pub mod Computing
+pub mod Examples
 pub mod Worked
+pub mod Hard

@@ -4,14 +4,15 @@ use Prim.Native.String as string
 use mathlib.Core.Bool.{Bool, true, false}
 use mathlib.Core.List.{List, [], _∷_, _++_, map}
 use lib.ListN.{replicate}
-use Rattle.text.specs.Bytes.{Text, bytes, cr}
+use Rattle.text.specs.Bytes.{Text, bytes, byte, cr}
 use Rattle.text.specs.Answer.{Answer, refused, given}
-use Rattle.parts.specs.Split.{closed}
+use Rattle.parts.specs.Split.{closed, join}
 use Rattle.profile.specs.Profile.{profile01}
 use Rattle.reader.specs.Fault.{judge}
-use Rattle.reader.specs.Line.{deskLine, refusedLine}
+use Rattle.reader.specs.Line.{deskLine, refusedLine, decimal}
 use Rattle.reply.specs.Reply.{reply}
 use Rattle.slip.specs.Book.{file}
+use Rattle.slip.specs.Read.{Part}
 
 -- lines, CR after each
 abbrev pub message : List string.String → Text
@@ -63,3 +64,8 @@ replyTo m = outcome (reply profile01 m (bytes "20240305101501") (bytes "K1") 120
 -- group g in slot 0 of an empty book of one slot
 abbrev pub slipOf : Text → ℕ → Text
 slipOf m g = outcome (file profile01 m g 0 (replicate 1024 0))
+
+-- the part of the book that is read
+abbrev pub partLine : Answer Part → Text
+partLine (refused r) = refusedLine r
+partLine (given p) = join (byte " ") (decimal (p .start) ∷ decimal (p .end) ∷ [])

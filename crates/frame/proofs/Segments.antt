@@ -1,0 +1,77 @@
+-- Where segments and fields stand.
+use mathlib.Core.Path.{_≡_, refl, sym, ap, _∙_}
+use Prim.Native.Nat.{ℕ, zero, suc, _+_}
+use mathlib.Core.Bool.{Bool, true, false}
+use mathlib.Core.List.{List, [], _∷_, dropLast}
+use lib.ListN.{length, getD, take, drop}
+use lib.Seq.{take-length}
+use Rattle.text.specs.Bytes.{Text, pick, cr, keep}
+use Rattle.text.specs.Marks.{Marks}
+use Rattle.parts.specs.Split.{split, piece, start, before, ended}
+use Rattle.parts.proofs.Split.{Stands, piece-stands, stands, stands-in}
+use Rattle.frame.specs.Segments.{segments, named, ofName, ahead, occurrence, occurrenceStart, isHeader, headerField, headerFieldStart, field, fieldStart}
+
+-- a piece that a separator ends stands where the piece stands
+last-stands : (m : Text) (k : ℕ) (ps : List Text) (i : ℕ) → Stands m k (getD ps i []) → Stands m k (getD (dropLast ps) i [])
+last-stands m k [] i h = refl
+last-stands m k (p ∷ []) i h = refl
+last-stands m k (p ∷ r ∷ ps) zero h = h
+last-stands m k (p ∷ r ∷ ps) (suc i) h = last-stands m k (r ∷ ps) i h
+
+pub segment-stands : (m : Text) (i : ℕ) → Stands m (before cr m i) (getD (segments m) i [])
+unfolding ended
+segment-stands m i = last-stands m (before cr m i) (split cr m) i (piece-stands cr m i)
+
+-- the segment of a name that has i of that name before it
+ahead-step : (n s : Text) (ss : List Text) (b : Bool) → named n s ≡ b
+    → ((i : ℕ) → getD (ofName n ss) i [] ≡ getD ss (ahead n ss i) [])
+    → (i : ℕ) → getD (pick b (s ∷ ofName n ss) (ofName n ss)) i [] ≡ getD (s ∷ ss) (ahead n (s ∷ ss) i) []
+unfolding ahead
+ahead-step n s ss true e ih zero = rw e
+ahead-step n s ss true e ih (suc i) = rw e (ih i)
+ahead-step n s ss false e ih zero = rw e (ih 0)
+ahead-step n s ss false e ih (suc i) = rw e (ih (suc i))
+
+pub ahead-named : (n : Text) (ss : List Text) (i : ℕ) → getD (ofName n ss) i [] ≡ getD ss (ahead n ss i) []
+unfolding keep
+ahead-named n [] i = refl
+ahead-named n (s ∷ ss) i = ahead-step n s ss (named n s) refl (ahead-named n ss) i
+
+pub occurrence-stands : (m n : Text) (o : ℕ) → Stands m (occurrenceStart m n o) (occurrence m n o)
+occurrence-stands m n zero = refl
+occurrence-stands m n (suc i) = rw (ahead-named n (segments m) i) (segment-stands m (ahead n (segments m) i))
+
+-- what stands behind j bytes and before k
+head-stands : (k : ℕ) (s : Text) → Stands s 0 (take k s)
+head-stands zero s = refl
+head-stands (suc k) [] = refl
+head-stands (suc k) (b ∷ s) = ap {B = Text} (λ r. b ∷ r) (head-stands k s)
+
+between-stands : (j k : ℕ) (s : Text) → Stands s j (drop j (take k s))
+between-stands zero k s = head-stands k s
+between-stands (suc j) zero s = refl
+between-stands (suc j) (suc k) [] = refl
+between-stands (suc j) (suc k) (b ∷ s) = between-stands j k s
+
+behind-stands : (j : ℕ) (s : Text) → Stands s j (drop j s)
+behind-stands j s = take-length (drop j s)
+
+cut-behind : (q : Marks) (j n : ℕ) (s : Text) → Stands s (j + start (q .field) n (drop j s)) (piece n (split (q .field) (drop j s)))
+cut-behind q j n s =
+    stands-in s j (drop j s) (start (q .field) n (drop j s)) (piece n (split (q .field) (drop j s)))
+    (behind-stands j s) (stands (q .field) n (drop j s))
+
+header-stands : (q : Marks) (s : Text) (f : ℕ) → Stands s (headerFieldStart q s f) (headerField q s f)
+header-stands q s zero = refl
+header-stands q s (suc zero) = between-stands 3 4 s
+header-stands q s (suc (suc zero)) = between-stands 4 8 s
+header-stands q s (suc (suc (suc i))) = cut-behind q 9 (suc i) s
+
+field-step : (q : Marks) (s : Text) (f : ℕ) (b : Bool)
+    → Stands s (pick b (headerFieldStart q s f) (4 + start (q .field) f (drop 4 s))) (pick b (headerField q s f) (piece f (split (q .field) (drop 4 s))))
+field-step q s f true = header-stands q s f
+field-step q s f false = cut-behind q 4 f s
+
+pub field-stands : (q : Marks) (s : Text) (f : ℕ) → Stands s (fieldStart q s f) (field q s f)
+unfolding field fieldStart
+field-stands q s f = field-step q s f (isHeader s)

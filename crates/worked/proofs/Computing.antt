@@ -1,0 +1,28 @@
+-- All that has to be opened so that the definitions compute.
+use mathlib.Core.List.{flatMap}
+use Rattle.text.specs.Bytes.{every, some, keep, same}
+use Rattle.text.specs.Answer.{first}
+use Rattle.text.specs.Marks.{marksOf}
+use Rattle.text.specs.Escape.{endsOutside, resolvedFrom, resolve}
+use Rattle.text.specs.Types.{digits, rest, twos}
+use Rattle.parts.specs.Split.{split, before, ended, led, join, closed}
+use Rattle.parts.specs.Descent.{part, partStart}
+use Rattle.frame.specs.Segments.{field, fieldStart, ahead}
+use Rattle.frame.specs.Frame.{endsWithCR, frameTests}
+use Rattle.profile.specs.Table.{typeLeaves, gathered, rulesOf}
+use Rattle.profile.specs.Rows.{rows}
+use Rattle.profile.specs.Profile.{profile01}
+use Rattle.reader.specs.Place.{leafAt, leafStart, repetitions, textAt, startAt}
+use Rattle.reader.specs.LookUp.{lookUp}
+use Rattle.reader.specs.View.{filledFrom, fieldSeen, segmentSeen, view}
+use Rattle.reader.specs.Fault.{walk, checks, firstBroken, verdict, judge}
+use Rattle.reader.specs.Line.{digitsBefore, faultLine, textLine}
+use Rattle.reply.specs.Reply.{trimmed, copiedHD, replyText, reply}
+use Rattle.slip.specs.Slip.{observations, observationsFrom, slipText}
+use Rattle.slip.specs.Book.{file}
+use Rattle.slip.specs.Read.{isSlipFrom, valueFrom, readSlip}
+use Rattle.demands.specs.Strike.{change, rewritten, strikeSegment, strike}
+
+unfoldable pub computing : Unit {0}
+unfolding flatMap every some keep same first marksOf endsOutside resolvedFrom resolve digits rest twos split before ended led join closed part partStart field fieldStart ahead endsWithCR frameTests typeLeaves gathered rulesOf rows profile01 leafAt leafStart repetitions textAt startAt lookUp filledFrom fieldSeen segmentSeen view walk checks firstBroken verdict judge digitsBefore faultLine textLine trimmed copiedHD replyText reply observations observationsFrom slipText file isSlipFrom valueFrom readSlip change rewritten strikeSegment strike
+computing = tt
