@@ -3,3 +3,4 @@ pub mod LookUp
 pub mod View
 pub mod Fault
 pub mod Line
+pub mod Told

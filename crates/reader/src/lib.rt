@@ -1,1 +1,33 @@
-// Places, look-up and judging, as definitions.
+// Places, look-up and judging: what they answer, and their definitions.
+use text::Refusal;
+
+// A place: the name's three bytes, and the numbers as they are asked, of any size.
+pub struct Place {
+    pub first: u8,
+    pub second: u8,
+    pub third: u8,
+    pub occurrence: u64,
+    pub field: u64,
+    pub repetition: u64,
+    pub component: u64,
+    pub subcomponent: u64,
+}
+
+// What a look-up finds: the text is the message's bytes from start up to end.
+pub enum Found {
+    Refused(Refusal),
+    Empty,
+    Text { start: usize, end: usize },
+}
+
+// The first fault of a message.
+pub struct Fault {
+    pub place: Place,
+    pub reason: u8,
+}
+
+pub enum Verdict {
+    Refused(Refusal),
+    Accepted,
+    Fault(Fault),
+}

@@ -1,3 +1,4 @@
 pub mod Slip
 pub mod Book
 pub mod Read
+pub mod Told

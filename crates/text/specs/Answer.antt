@@ -5,6 +5,8 @@ use mathlib.Core.List.{List, [], _∷_, _++_}
 use lib.ListN.{length, drop}
 use Rattle.text.specs.Bytes.{Text, pick}
 use Rattle.text.specs.declared.refusal.Refusal.{Refusal}
+use Rattle.text.specs.declared.Written.{Written}
+use Rattle.text.specs.declared.Written.the-variants.{Refused, Bytes}
 use Rattle.text.specs.declared.refusal.Refusal.the-variants.{Empty, TooLong, BadByte, NoHeader, NoEnd, BadSegment, SecondHeader, TooMany, BadPlace, NoSegment, BadStamp, BadReplyNumber, NoControlNumber, NoRoom, NotAccepted, NoGroup, NoSlot, BadSlip, NoTag, BadEscape}
 
 abbrev pub numberOf : Refusal → ℕ
@@ -55,3 +57,12 @@ passes (t ∷ ts) = pick (t .applies) false (passes ts)
 abbrev pub bufferAfter : Answer Text → Text → Text
 bufferAfter (refused r) buffer = buffer
 bufferAfter (given t) buffer = t ++ drop (length t) buffer
+
+-- what a call reports of the bytes written: how many
+abbrev pub reported : Answer Text → Answer ℕ
+reported (refused r) = refused r
+reported (given t) = given (length t)
+
+abbrev pub writtenOf : Written → Answer ℕ
+writtenOf (Refused r) = refused r
+writtenOf (Bytes n) = given n

@@ -2,3 +2,9 @@
 mod refusal;
 
 pub use refusal::Refusal;
+
+// The answer of a call that writes into a lent buffer: refused, or so many bytes written.
+pub enum Written {
+    Refused(Refusal),
+    Bytes(usize),
+}

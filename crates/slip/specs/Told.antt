@@ -1,0 +1,19 @@
+-- What each case of an answer tells: 01's number and values.
+use Rattle.text.specs.Answer.{Answer, refused, given}
+use Rattle.text.specs.Bytes.{Text}
+use Rattle.slip.specs.declared.Filed as code-filed
+use Rattle.slip.specs.declared.Value as code-value
+use Rattle.slip.specs.Read.{Part}
+
+-- a filing reports no more than that the slip stands in its slot
+abbrev pub done : Answer Text → Answer Unit
+done (refused r) = refused r
+done (given t) = given tt
+
+abbrev pub filedOf : code-filed.Filed → Answer Unit
+filedOf (code-filed.the-variants.Refused r) = refused r
+filedOf code-filed.the-variants.Slip = given tt
+
+abbrev pub valueOf : code-value.Value → Answer Part
+valueOf (code-value.the-variants.Refused r) = refused r
+valueOf (code-value.the-variants.Part a e) = given (record { start = a; end = e })
