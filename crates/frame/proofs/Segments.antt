@@ -1,9 +1,9 @@
 -- Where segments and fields stand.
-use mathlib.Core.Path.{_≡_, refl, sym, ap, _∙_}
+use mathlib.Core.Path.{_≡_, refl, ap}
 use Prim.Native.Nat.{ℕ, zero, suc, _+_}
 use mathlib.Core.Bool.{Bool, true, false}
 use mathlib.Core.List.{List, [], _∷_, dropLast}
-use lib.ListN.{length, getD, take, drop}
+use lib.ListN.{getD, take, drop}
 use lib.Seq.{take-length}
 use Rattle.text.specs.Bytes.{Text, pick, cr, keep}
 use Rattle.text.specs.Marks.{Marks}

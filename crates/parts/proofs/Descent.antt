@@ -1,13 +1,11 @@
 -- Laws of the descent.
-use mathlib.Core.Path.{_≡_, refl, sym, ap, _∙_}
-use Prim.Native.Nat.{ℕ, zero, suc, _+_}
-use native.Mathlib.Nat.{zero-add}
+use mathlib.Core.Path.{refl}
+use Prim.Native.Nat.{ℕ, zero, suc}
 use mathlib.Core.Bool.{Bool, true, false}
-use mathlib.Core.List.{List, [], _∷_, _++_}
-use lib.ListN.{length, take, drop}
+use mathlib.Core.List.{List, [], _∷_}
 use lib.Seq.{take-length}
 use Rattle.text.specs.Bytes.{Text}
-use Rattle.parts.specs.Split.{split, piece, start}
+use Rattle.parts.specs.Split.{piece}
 use Rattle.parts.specs.Descent.{Step, cut, startIn, part, partStart}
 use Rattle.parts.proofs.Split.{Stands, stands, stands-in}
 

@@ -1,16 +1,16 @@
 -- The table's rule, carried from the one test to any two rows.
-use mathlib.Core.Path.{_≡_, refl, sym, _∙_}
+use mathlib.Core.Path.{_≡_, refl, _∙_}
 use Prim.Native.Nat.{ℕ, zero, suc, _+_, _*_, _<_}
 use native.Mathlib.Nat.{lt-trans, le-of-suc-le-suc, not-suc-le-zero}
 use native.Mathlib.Omega.{arith}
-use mathlib.Core.Bool.{Bool, true}
+use mathlib.Core.Bool.{true}
 use mathlib.Core.List.{List, [], _∷_}
 use lib.ListN.{length, getD, drop}
 use lib.Seq.{drop-drop}
 use lib.Dec.{ltb}
 use borrow.Author.Tests.{ltb-true}
 use Rattle.text.proofs.Bytes.{both}
-use Rattle.profile.specs.Numbers.{rising, placeOf, placesFrom, placesOf}
+use Rattle.profile.specs.Numbers.{rising, placeOf, placesFrom}
 
 -- a number in front of those that rise is below each of them
 rises-first : (x : ℕ) (l : List ℕ) → rising (x ∷ l) ≡ true → (j : ℕ) → j < length l → x < getD l j 0

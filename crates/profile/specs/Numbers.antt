@@ -1,11 +1,11 @@
 -- A table's rows as the machine has them: eleven numbers a row.
 use Prim.Native.Nat.{ℕ, zero, suc, _+_, _*_, _-_, _/_}
-use mathlib.Core.Bool.{Bool, true, false, _&&_}
+use mathlib.Core.Bool.{Bool, true, _&&_}
 use mathlib.Core.List.{List, [], _∷_}
 use lib.ListN.{length, getD, drop}
 use lib.Dec.{eqb, ltb}
 use Rattle.text.specs.Bytes.{Text, pick, bytes}
-use Rattle.profile.specs.Table.{Simple, SI, NM, DTM, TM, ST, TX, FT, ID, IS, Codes, any, only, Leaf, Listed, leaf, named-by, Usage, O, R, C, Row}
+use Rattle.profile.specs.Table.{Simple, SI, NM, DTM, TM, ST, TX, FT, ID, IS, Codes, any, only, Listed, leaf, named-by, Usage, O, R, C, Row}
 use Rattle.profile.specs.Lists.{message-types, events, processing-ids, versions, sexes, yes-no, order-controls, result-statuses, value-types, observation-statuses}
 
 -- segments and lists by number, from 1

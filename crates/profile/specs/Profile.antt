@@ -3,7 +3,7 @@ use Prim.Native.Nat.{ℕ}
 use Prim.Native.String as string
 use mathlib.Core.Bool.{Bool, true, false}
 use mathlib.Core.List.{List, [], _∷_, map}
-use Rattle.text.specs.Bytes.{Text, bytes}
+use Rattle.text.specs.Bytes.{bytes}
 use Rattle.profile.specs.Table.{Simple, NM, DTM, TM, ST, TX, FT, ID, limitOf, any, Leaf, Type-leaves, Succession, Table}
 use Rattle.profile.specs.Rows.{rows}
 

@@ -4,7 +4,7 @@ use Prim.Native.String as string
 use mathlib.Core.Bool.{Bool, true, false}
 use mathlib.Core.List.{List, [], _∷_}
 use Rattle.text.specs.Bytes.{bytes}
-use Rattle.profile.specs.Table.{Simple, SI, NM, DTM, TM, ST, TX, FT, ID, IS, Codes, any, only, Listed, leaf, named-by, Usage, O, R, C, Row}
+use Rattle.profile.specs.Table.{Simple, SI, NM, DTM, ST, FT, ID, IS, Codes, any, only, leaf, named-by, Usage, O, R, C, Row}
 use Rattle.profile.specs.Lists.{message-types, events, processing-ids, versions, sexes, yes-no, order-controls, result-statuses, value-types, observation-statuses}
 
 abbrev pub star : Bool

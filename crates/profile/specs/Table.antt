@@ -1,6 +1,6 @@
 -- A table: a row for each listed leaf, which types a field may name, and which segment may follow which.
 use Prim.Native.Nat.{ℕ}
-use mathlib.Core.Bool.{Bool, true, false, _&&_}
+use mathlib.Core.Bool.{Bool, true, _&&_}
 use mathlib.Core.List.{List, [], _∷_, flatMap}
 use lib.Dec.{eqb}
 use Rattle.text.specs.Bytes.{Text, pick, some, keep, same, isOne}

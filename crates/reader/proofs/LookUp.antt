@@ -1,7 +1,5 @@
 -- The text that a look-up finds is the very part of the message.
-use mathlib.Core.Path.{_≡_, refl, _∙_}
-use Prim.Native.Nat.{ℕ, _+_}
-use lib.ListN.{length, take, drop}
+use Prim.Native.Nat.{ℕ}
 use Rattle.text.specs.Bytes.{Text}
 use Rattle.text.specs.Marks.{Marks, marksOf}
 use Rattle.parts.specs.Descent.{part, partStart, inField}

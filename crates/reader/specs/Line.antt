@@ -1,7 +1,6 @@
 -- What the desk's programs print, one line an answer.
 use Prim.Native.Nat.{ℕ, zero, suc, _+_, _/_, _%_}
-use mathlib.Core.Bool.{Bool, true, false}
-use mathlib.Core.List.{List, [], _∷_, _++_}
+use mathlib.Core.List.{[], _∷_, _++_}
 use lib.Dec.{ltb}
 use Rattle.text.specs.Bytes.{Text, pick, bytes, byte}
 use Rattle.text.specs.Answer.{Answer, refused, given, numberOf}

@@ -1,6 +1,6 @@
 -- Looking up a place: 1 to 8, 9, 10, or Empty, or Text with its start and end in the message.
 use Prim.Native.Nat.{ℕ, _+_}
-use mathlib.Core.Bool.{Bool, true, false, not}
+use mathlib.Core.Bool.{Bool, not}
 use mathlib.Core.List.{List, [], _∷_, _++_}
 use lib.ListN.{length}
 use lib.Dec.{ltb}

@@ -1,8 +1,7 @@
 -- A place of a message, and the text that stands there.
 use Prim.Native.Nat.{ℕ, _+_}
-use mathlib.Core.Bool.{Bool, true, false, _&&_}
-use mathlib.Core.List.{List, [], _∷_}
-use lib.Dec.{leb}
+use mathlib.Core.Bool.{Bool, _&&_}
+use mathlib.Core.List.{List, []}
 use Rattle.text.specs.Bytes.{Text, pick, empty}
 use Rattle.text.specs.Marks.{Marks, marksOf}
 use Rattle.text.specs.Types.{_to_, isWithin}

@@ -1,6 +1,5 @@
 -- What each case of an answer tells: 01's number and values.
-use Prim.Native.Nat.{ℕ}
-use mathlib.Core.List.{List, [], _∷_}
+use mathlib.Core.List.{[], _∷_}
 use Rattle.text.specs.Answer.{Answer, refused, given}
 use Rattle.reader.specs.declared.Place as code-place
 use Rattle.reader.specs.declared.Found as code-found

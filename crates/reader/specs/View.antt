@@ -1,7 +1,7 @@
 -- What judging sees of a message: its listed segments; of each its listed fields; of each of these whether it has too many
 -- repetitions, and the listed leaves of its filled ones.
 use Prim.Native.Nat.{ℕ, suc}
-use mathlib.Core.Bool.{Bool, true, false, not}
+use mathlib.Core.Bool.{Bool, not}
 use mathlib.Core.List.{List, [], _∷_, map}
 use lib.ListN.{length}
 use lib.Dec.{ltb}

@@ -1,13 +1,12 @@
 -- The slip of a group: its exact bytes.
 use Prim.Native.Nat.{ℕ, zero, suc, _/_, _%_, _-_}
-use mathlib.Core.Bool.{Bool, true, false}
 use mathlib.Core.List.{List, [], _∷_, _++_, flatMap}
 use lib.ListN.{length, replicate}
 use Rattle.text.specs.Bytes.{Text, pick, bytes, empty}
 use Rattle.text.specs.Marks.{marksOf}
 use Rattle.text.specs.Escape.{resolved}
 use Rattle.frame.specs.Segments.{segments, named}
-use Rattle.reader.specs.Place.{Place, place, textAt}
+use Rattle.reader.specs.Place.{place, textAt}
 
 -- two bytes, high byte first
 abbrev pub twoBytes : ℕ → Text

@@ -1,5 +1,5 @@
 -- What each case of an answer tells: 01's number and values.
-use Rattle.text.specs.Answer.{Answer, refused, given}
+use Rattle.text.specs.Answer.{Answer, refused, given, tell}
 use Rattle.text.specs.Bytes.{Text}
 use Rattle.slip.specs.declared.Filed as code-filed
 use Rattle.slip.specs.declared.Value as code-value
@@ -7,8 +7,7 @@ use Rattle.slip.specs.Read.{Part}
 
 -- a filing reports no more than that the slip stands in its slot
 abbrev pub done : Answer Text → Answer Unit
-done (refused r) = refused r
-done (given t) = given tt
+done a = tell (λ t. tt) a
 
 abbrev pub filedOf : code-filed.Filed → Answer Unit
 filedOf (code-filed.the-variants.Refused r) = refused r

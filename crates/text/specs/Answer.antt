@@ -58,10 +58,14 @@ abbrev pub bufferAfter : Answer Text → Text → Text
 bufferAfter (refused r) buffer = buffer
 bufferAfter (given t) buffer = t ++ drop (length t) buffer
 
--- what a call reports of the bytes written: how many
+-- what is told of an answer
+abbrev pub tell : {A B : Type 0} → (A → B) → Answer A → Answer B
+tell f (refused r) = refused r
+tell f (given a) = given (f a)
+
+-- a call reports how many bytes were written
 abbrev pub reported : Answer Text → Answer ℕ
-reported (refused r) = refused r
-reported (given t) = given (length t)
+reported a = tell length a
 
 abbrev pub writtenOf : Written → Answer ℕ
 writtenOf (Refused r) = refused r

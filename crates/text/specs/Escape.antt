@@ -1,7 +1,7 @@
 -- Escapes, read from the left: \F\ \S\ \T\ \R\ \E\ stand for the five separators | ^ & ~ \.
 use Prim.Native.Nat.{ℕ}
 use mathlib.Core.Bool.{Bool, true, false, not}
-use mathlib.Core.List.{List, [], _∷_}
+use mathlib.Core.List.{[], _∷_}
 use lib.ListN.{length}
 use lib.Dec.{eqb, ltb}
 use Rattle.text.specs.Bytes.{Text, pick, byte}

@@ -2,6 +2,7 @@
 mod refusal;
 
 pub use refusal::Refusal;
+pub use refusal::number;
 
 // The answer of a call that writes into a lent buffer: refused, or so many bytes written.
 pub enum Written {

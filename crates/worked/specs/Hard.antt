@@ -3,9 +3,8 @@ use Prim.Native.Nat.{ℕ, _^_}
 use Prim.Native.String as string
 use mathlib.Core.Bool.{Bool, true, false}
 use mathlib.Core.List.{List, [], _∷_, _++_}
-use lib.ListN.{length, take, drop, replicate}
-use lib.Dec.{eqb}
-use Rattle.text.specs.Bytes.{Text, bytes, cr, pick}
+use lib.ListN.{take, drop, replicate}
+use Rattle.text.specs.Bytes.{Text, bytes, cr}
 use Rattle.text.specs.Answer.{given, bufferAfter}
 use Rattle.text.specs.Marks.{usual}
 use Rattle.text.specs.Escape.{resolve}
@@ -16,9 +15,9 @@ use Rattle.reader.specs.LookUp.{lookUp}
 use Rattle.reader.specs.Line.{lookLine}
 use Rattle.reply.specs.Reply.{reply}
 use Rattle.slip.specs.Book.{file, bookAfter}
-use Rattle.slip.specs.Read.{Part, isSlip, readSlip}
+use Rattle.slip.specs.Read.{isSlip, readSlip}
 use Rattle.demands.specs.Strike.{strike}
-use Rattle.worked.specs.Messages.{message, msh, pid, obr, obx, M, withMSH, withPID, withOBR, withOBX, withLine, desk, outcome, replyTo, slipOf, partLine}
+use Rattle.worked.specs.Messages.{message, msh, pid, obr, obx, M, withMSH, withPID, withOBX, withLine, desk, outcome, replyTo, slipOf, partLine}
 use Rattle.worked.specs.Worked.{Example, _says_}
 
 abbrev yesNo : Bool → Text

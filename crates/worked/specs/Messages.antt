@@ -1,8 +1,7 @@
 -- The worked message M, and what it is changed to.
 use Prim.Native.Nat.{ℕ}
 use Prim.Native.String as string
-use mathlib.Core.Bool.{Bool, true, false}
-use mathlib.Core.List.{List, [], _∷_, _++_, map}
+use mathlib.Core.List.{List, [], _∷_, map}
 use lib.ListN.{replicate}
 use Rattle.text.specs.Bytes.{Text, bytes, byte, cr}
 use Rattle.text.specs.Answer.{Answer, refused, given}

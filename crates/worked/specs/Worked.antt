@@ -1,7 +1,7 @@
 -- P1 to P12 as one list: what the definitions give, and what 01 says.
-use Prim.Native.Nat.{ℕ, _-_}
+use Prim.Native.Nat.{_-_}
 use mathlib.Core.Path.{_≡_}
-use mathlib.Core.List.{List, [], _∷_, _++_, map}
+use mathlib.Core.List.{List, [], _∷_}
 use lib.ListN.{length, take, replicate}
 use Rattle.text.specs.Bytes.{Text, bytes}
 use Rattle.worked.specs.Messages.{message, msh, pid, obr, obx, M, withMSH, withPID, withOBX, withLine, desk, replyTo, slipOf}

@@ -1,0 +1,291 @@
+-- A struck segment is seen as the segment was.
+use mathlib.Core.Path.{_≡_, refl, sym, ap, subst, _∙_}
+use Prim.Native.Nat.{ℕ, zero, suc}
+use native.Mathlib.Omega.{arith}
+use mathlib.Core.Bool.{Bool, true, false, not, _&&_, _||_}
+use mathlib.Core.List.{List, [], _∷_, flatMap}
+use lib.ListN.{length}
+use lib.Dec.{eqb, leb, ltb}
+use borrow.Author.Tests.{eq-eqb, eqb-true, leb-true, le-ltb}
+use Rattle.text.specs.Bytes.{Text, pick, empty, some, keep, same}
+use Rattle.text.specs.Marks.{Marks}
+use Rattle.text.proofs.Bytes.{not-true, both, same-true}
+use Rattle.text.proofs.Lists.{All, and-both, or-left, or-right, all-map, all-both, all-keep, all-kept, every-all, some-mono, some-flatMap, map-same, flatMap-same, all-flatMap}
+use Rattle.parts.specs.Split.{split, piece}
+use Rattle.parts.specs.Descent.{cut, part}
+use Rattle.frame.specs.Segments.{name, field, unsplit}
+use Rattle.profile.specs.Table.{Table, Leaf, Listed, leaf, named-by, Row, Rule, rule, gather, gathered, rulesOf, leavesIn}
+use Rattle.reader.specs.Place.{leafOf, repetitions}
+use Rattle.reader.specs.View.{Field, entriesOf, isFilled, filledFrom, namedIn, fieldSeen, segmentSeen}
+use Rattle.demands.specs.Strike.{change, hasLeaf, rowsAt, hasField, leavesAt, strikeField, strikeSegment}
+use Rattle.demands.specs.Fit.{listsComponent, hasRow, namerListed, fit}
+use Rattle.demands.proofs.Shrink.{change-length, split-rewritten, rewritten-empty}
+use Rattle.demands.proofs.Kept.{leaf-kept, unless, strikeIn, in-shrinks, name-struck, field-struck, unsplit-struck, leaf-struck}
+
+-- 1. Members and tests
+module _ {A : Type 0} where
+  -- a test that a member passes, some member passes
+  abbrev Told : List A → A → Type 0
+  Told l x = (h : A → Bool) → h x ≡ true → some h l ≡ true
+
+  told-more : (y : A) (l : List A) (x : A) → Told l x → Told (y ∷ l) x
+  unfolding some
+  told-more y l x t h e = or-right (h y) (some h l) (t h e)
+
+  told-here : (x : A) (l : List A) → Told (x ∷ l) x
+  unfolding some
+  told-here x l h e = or-left (h x) (some h l) e
+
+  pub all-told : (l : List A) → All (Told l) l
+  all-told [] = tt
+  all-told (x ∷ l) = (told-here x l, all-map (Told l) (Told (x ∷ l)) (λ y. told-more x l y) l (all-told l))
+
+  some-step : (k : A → Bool) (x : A) (l : List A) (b r : Bool) → k x ≡ b → (r ≡ true → not (empty (keep k l)) ≡ true)
+      → b || r ≡ true → not (empty (pick b (x ∷ keep k l) (keep k l))) ≡ true
+  some-step k x l true r e ih h = refl
+  some-step k x l false r e ih h = ih h
+
+  some-kept : (k : A → Bool) (l : List A) → some k l ≡ true → not (empty (keep k l)) ≡ true
+  unfolding some keep
+  some-kept k [] e = e
+  some-kept k (x ∷ l) e = some-step k x l (k x) (some k l) refl (some-kept k l) e
+
+-- 2. Rules made of rows
+module _ (K : ℕ → Listed → Type 0) (N : ℕ → Type 0) where
+  abbrev RowOk : Row → Type 0
+  RowOk r = K (r .field) (r .lists) × N (r .field) × (leb 1 (r .repetitions) ≡ true)
+
+  abbrev RuleOk : Rule → Type 0
+  RuleOk u = All (K (u .field)) (u .lists) × N (u .field) × (leb 1 (u .repetitions) ≡ true)
+
+  join-step : (r : Row) (u : Rule) (us : List Rule) (b : Bool) → eqb (r .field) (u .field) ≡ b → RowOk r → RuleOk u → All RuleOk us
+      → All RuleOk (pick b (rule r (r .lists ∷ u .lists) ∷ us) (rule r (r .lists ∷ []) ∷ u ∷ us))
+  join-step r u us true e a b c =
+      (((a .0, subst (λ (f : ℕ). All (K f) (u .lists)) (sym (eqb-true (r .field) (u .field) e)) (b .0)), a .1, a .2), c)
+  join-step r u us false e a b c = (((a .0, tt), a .1, a .2), (b, c))
+
+  gather-step : (r : Row) (us : List Rule) → RowOk r → All RuleOk us → All RuleOk (gather r us)
+  gather-step r [] a c = (((a .0, tt), a .1, a .2), tt)
+  gather-step r (u ∷ us) a c = join-step r u us (eqb (r .field) (u .field)) refl a (c .0) (c .1)
+
+  pub gathered-all : (rs : List Row) → All RowOk rs → All RuleOk (gathered rs)
+  unfolding gathered
+  gathered-all [] a = tt
+  gathered-all (r ∷ rs) a = gather-step r (gathered rs) (a .0) (gathered-all rs (a .1))
+
+-- 3. A leaf with a row is listed
+lists-leaf : (T : Table) (names : ℕ → Text) (c : ℕ) (x : Listed) → listsComponent c x ≡ true
+    → some (λ (l : Leaf). eqb (l .component) c && eqb (l .subcomponent) 1) (leavesIn T names x) ≡ true
+unfolding some
+lists-leaf T names c (leaf l) e = or-left (eqb (l .component) c && eqb (l .subcomponent) 1) false e
+lists-leaf T names c (named-by g) e = not-true e
+
+pub has-row : (T : Table) (q : Marks) (s : Text) (f c : ℕ) → hasRow T (name s) f c ≡ true → hasLeaf (leavesAt T q s f) c 1 ≡ true
+unfolding leavesAt rowsAt
+has-row T q s f c h =
+    let k : Row → Bool = λ r. same (r .segment) (name s) && eqb (r .field) f in
+    let g : Leaf → Bool = λ l. eqb (l .component) c && eqb (l .subcomponent) 1 in
+    some-flatMap k g (λ (r : Row). leavesIn T (namedIn q s) (r .lists)) (T .rows)
+    (some-mono (λ (r : Row). k r && listsComponent c (r .lists)) (λ (r : Row). k r && some g (leavesIn T (namedIn q s) (r .lists)))
+    (λ r e.
+    let w = both (k r) (listsComponent c (r .lists)) e in
+    and-both (k r) (some g (leavesIn T (namedIn q s) (r .lists))) (w .0) (lists-leaf T (namedIn q s) c (r .lists) (w .1)))
+    (T .rows) h)
+
+-- 4. The rows of a segment, before and after
+module _ (T : Table) (q : Marks) (s : Text) where
+  abbrev before : ℕ → Text
+  before f = namedIn q s f
+
+  abbrev after : ℕ → Text
+  after f = namedIn q (strikeSegment T q s) f
+
+  -- what a row lists is the same, and its leaves are listed ones of its field
+  abbrev Lists : ℕ → Listed → Type 0
+  Lists f x =
+      (leavesIn T after x ≡ leavesIn T before x)
+      × All (λ (l : Leaf). hasLeaf (leavesAt T q s f) (l .component) (l .subcomponent) ≡ true) (leavesIn T before x)
+
+  abbrev Has : ℕ → Type 0
+  Has f = hasField T (name s) f ≡ true
+
+  same-leaves : (x : Listed) → namerListed T (name s) x ≡ true → leavesIn T after x ≡ leavesIn T before x
+  same-leaves (leaf l) e = refl
+  same-leaves (named-by f) e = rw (leaf-struck T q s f 1 1 1 (has-row T q s f 1 e))
+
+  -- the row's own test: its segment and field, and a leaf that it lists
+  own-row : (r : Row) → same (r .segment) (name s) ≡ true → same (r .segment) (name s) && eqb (r .field) (r .field) ≡ true
+  own-row r e = and-both (same (r .segment) (name s)) (eqb (r .field) (r .field)) e (eq-eqb (r .field) (r .field) refl)
+
+  row-leaf : (r : Row) → same (r .segment) (name s) ≡ true → Told (T .rows) r → (l : Leaf) → Told (leavesIn T before (r .lists)) l
+      → hasLeaf (leavesAt T q s (r .field)) (l .component) (l .subcomponent) ≡ true
+  unfolding leavesAt rowsAt
+  row-leaf r e t l u =
+      let k : Row → Bool = λ x. same (x .segment) (name s) && eqb (x .field) (r .field) in
+      let g : Leaf → Bool = λ x. eqb (x .component) (l .component) && eqb (x .subcomponent) (l .subcomponent) in
+      some-flatMap k g (λ (x : Row). leavesIn T before (x .lists)) (T .rows)
+      (t (λ x. k x && some g (leavesIn T before (x .lists)))
+      (and-both (k r) (some g (leavesIn T before (r .lists))) (own-row r e)
+      (u g
+      (and-both (eqb (l .component) (l .component)) (eqb (l .subcomponent) (l .subcomponent))
+      (eq-eqb (l .component) (l .component) refl) (eq-eqb (l .subcomponent) (l .subcomponent) refl)))))
+
+  row-field : (r : Row) → same (r .segment) (name s) ≡ true → Told (T .rows) r → Has (r .field)
+  unfolding rowsAt
+  row-field r e t =
+      some-kept (λ (x : Row). same (x .segment) (name s) && eqb (x .field) (r .field)) (T .rows)
+      (t (λ x. same (x .segment) (name s) && eqb (x .field) (r .field)) (own-row r e))
+
+  abbrev Fit : Row → Type 0
+  Fit r = leb 1 (r .repetitions) && namerListed T (r .segment) (r .lists) ≡ true
+
+  row-ok : (r : Row) → (Fit r × Told (T .rows) r) × (same (r .segment) (name s) ≡ true) → RowOk Lists Has r
+  row-ok r h =
+      let w = both (leb 1 (r .repetitions)) (namerListed T (r .segment) (r .lists)) (h .0 .0) in
+      let e = h .1 in (
+        (
+          same-leaves (r .lists) (rw (same-true (r .segment) (name s) e) at (w .1)),
+          all-map (Told (leavesIn T before (r .lists)))
+              (λ (l : Leaf). hasLeaf (leavesAt T q s (r .field)) (l .component) (l .subcomponent) ≡ true)
+              (row-leaf r e (h .0 .1)) (leavesIn T before (r .lists)) (all-told (leavesIn T before (r .lists))),
+        ),
+        row-field r e (h .0 .1),
+        w .0,
+      )
+
+  pub rules-ok : fit T ≡ true → All (RuleOk Lists Has) (rulesOf T (name s))
+  unfolding fit rulesOf
+  rules-ok ok =
+      let named : Row → Bool = λ r. same (r .segment) (name s) in
+      gathered-all Lists Has (keep named (T .rows))
+      (all-map (λ r. (Fit r × Told (T .rows) r) × (named r ≡ true)) (RowOk Lists Has) row-ok (keep named (T .rows))
+      (all-both (λ r. Fit r × Told (T .rows) r) (λ r. named r ≡ true) (keep named (T .rows))
+      (all-keep (λ r. Fit r × Told (T .rows) r) named (T .rows)
+      (all-both Fit (Told (T .rows)) (T .rows)
+      (every-all (λ (r : Row). leb 1 (r .repetitions) && namerListed T (r .segment) (r .lists)) (T .rows) ok)
+      (all-told (T .rows))))
+      (all-kept named (T .rows))))
+
+-- 5. The repetitions of a field, before and after
+module _ (q : Marks) where
+  abbrev reps : Bool → Text → List Text
+  reps w t = pick (empty t) [] (cut w (q .repetition) t)
+
+  nothing : (n : ℕ) → piece n ([] ∷ []) ≡ []
+  nothing zero = refl
+  nothing (suc zero) = refl
+  nothing (suc (suc n)) = refl
+
+  no-leaf : (c b : ℕ) → leafOf q false [] c b ≡ []
+  unfolding part split
+  no-leaf c b = rw (nothing c) (nothing b)
+
+  not-filled : (ls : List Leaf) → isFilled (entriesOf q false ls []) ≡ false
+  unfolding some
+  not-filled [] = refl
+  not-filled (l ∷ ls) = rw (no-leaf (l .component) (l .subcomponent)) (not-filled ls)
+
+  -- a field of no bytes has no filled repetition, whether it is taken for none or for one
+  filled-all : (ls : List Leaf) (k : ℕ) (t : Text)
+      → filledFrom k (entriesOf q false ls) (reps false t) ≡ filledFrom k (entriesOf q false ls) (split (q .repetition) t)
+  unfolding filledFrom split
+  filled-all ls k [] = rw (not-filled ls)
+  filled-all ls k (b ∷ t) = refl
+
+module _ (T : Table) (q : Marks) (s : Text) (f : ℕ) (has : hasField T (name s) f ≡ true) where
+  abbrev struck : Text → Text
+  struck t = strikeField T q s f t
+
+  struck-split : (t : Text) → split (q .repetition) (struck t) ≡ change (strikeIn T q s f) (split (q .repetition) t)
+  struck-split t = rw has (split-rewritten (q .repetition) (strikeIn T q s f) (in-shrinks T q s f) t)
+
+  struck-count : (t : Text) → length (split (q .repetition) (struck t)) ≡ length (split (q .repetition) t)
+  struck-count t = ap length (struck-split t) ∙ change-length (strikeIn T q s f) (split (q .repetition) t)
+
+  struck-none : struck [] ≡ []
+  struck-none = rw has (rewritten-empty (q .repetition) (strikeIn T q s f) (in-shrinks T q s f))
+
+  -- one repetition or none: neither is too many
+  count-by : (n b : ℕ) (t u : Text) → leb 1 n ≡ true → length (split (q .repetition) u) ≡ length (split (q .repetition) (b ∷ t))
+      → ltb n (length (reps q false u)) ≡ ltb n (length (reps q false (b ∷ t)))
+  count-by n b t [] l e =
+      rw (le-ltb n 0 (omega arith), ← e) (sym (unfold split in le-ltb n 1 (leb-true 1 n l)))
+  count-by n b t (c ∷ u) l e = ap (ltb n) e
+
+  surplus-same : (w : Bool) (n : ℕ) (t : Text) → leb 1 n ≡ true → ltb n (length (reps q w (unless w struck t))) ≡ ltb n (length (reps q w t))
+  surplus-same true n t l = refl
+  surplus-same false n [] l = rw struck-none
+  surplus-same false n (b ∷ t) l = count-by n b t (struck (b ∷ t)) l (struck-count (b ∷ t))
+
+  module _ (ls : List Leaf) (all : All (λ (l : Leaf). hasLeaf (leavesAt T q s f) (l .component) (l .subcomponent) ≡ true) ls) where
+    entries-same : (t : Text) → entriesOf q false ls (strikeIn T q s f 1 t) ≡ entriesOf q false ls t
+    entries-same t =
+        map-same
+        (λ (l : Leaf). record { leaf = l; text = leafOf q false (strikeIn T q s f 1 t) (l .component) (l .subcomponent) })
+        (λ (l : Leaf). record { leaf = l; text = leafOf q false t (l .component) (l .subcomponent) })
+        ls
+        (all-map (λ (l : Leaf). hasLeaf (leavesAt T q s f) (l .component) (l .subcomponent) ≡ true) _
+        (λ l e. rw (leaf-kept q (leavesAt T q s f) t (l .component) (l .subcomponent) e)) ls all)
+
+    filled-change : (k : ℕ) (ts : List Text)
+        → filledFrom k (entriesOf q false ls) (change (strikeIn T q s f) ts) ≡ filledFrom k (entriesOf q false ls) ts
+    unfolding filledFrom change
+    filled-change k [] = refl
+    filled-change k (t ∷ ts) = rw (entries-same t, filled-change (suc k) ts)
+
+    filled-same : (w : Bool) (t : Text) → filledFrom 1 (entriesOf q w ls) (reps q w (unless w struck t)) ≡ filledFrom 1 (entriesOf q w ls) (reps q w t)
+    filled-same true t = refl
+    filled-same false t =
+        filled-all q ls 1 (struck t)
+        ∙ ap (filledFrom 1 (entriesOf q false ls)) (struck-split t)
+        ∙ filled-change 1 (split (q .repetition) t)
+        ∙ sym (filled-all q ls 1 t)
+
+-- 6. A field, a segment
+module _ (T : Table) (q : Marks) (s : Text) where
+  abbrev shown : Rule → List Leaf → Bool → Text → Field
+  shown u ls w t =
+      record {
+        rule = u;
+        surplus = ltb (u .repetitions) (length (reps q w t));
+        filled = filledFrom 1 (entriesOf q w ls) (reps q w t);
+      }
+
+  shown-same : (u : Rule) (ls : List Leaf) (w : Bool) (t : Text) → hasField T (name s) (u .field) ≡ true → leb 1 (u .repetitions) ≡ true
+      → All (λ (l : Leaf). hasLeaf (leavesAt T q s (u .field)) (l .component) (l .subcomponent) ≡ true) ls
+      → shown u ls w (unless w (strikeField T q s (u .field)) t) ≡ shown u ls w t
+  shown-same u ls w t has l all =
+      λ i.
+      record {
+        rule = u;
+        surplus = surplus-same T q s (u .field) has w (u .repetitions) t l i;
+        filled = filled-same T q s (u .field) has ls all w t i;
+      }
+
+  lists-same : (f : ℕ) (xs : List Listed) → All (Lists T q s f) xs → flatMap (leavesIn T (after T q s)) xs ≡ flatMap (leavesIn T (before T q s)) xs
+  lists-same f xs a =
+      flatMap-same (leavesIn T (after T q s)) (leavesIn T (before T q s)) xs
+      (all-map (Lists T q s f) (λ x. leavesIn T (after T q s) x ≡ leavesIn T (before T q s) x) (λ x h. h .0) xs a)
+
+  lists-listed : (f : ℕ) (xs : List Listed) → All (Lists T q s f) xs
+      → All (λ (l : Leaf). hasLeaf (leavesAt T q s f) (l .component) (l .subcomponent) ≡ true) (flatMap (leavesIn T (before T q s)) xs)
+  lists-listed f xs a =
+      all-flatMap (λ (l : Leaf). hasLeaf (leavesAt T q s f) (l .component) (l .subcomponent) ≡ true) (leavesIn T (before T q s)) xs
+      (all-map (Lists T q s f) (λ x. All (λ (l : Leaf). hasLeaf (leavesAt T q s f) (l .component) (l .subcomponent) ≡ true) (leavesIn T (before T q s) x)) (λ x h. h .1) xs a)
+
+  pub field-same : (u : Rule) → RuleOk (Lists T q s) (Has T q s) u → fieldSeen T q (strikeSegment T q s) u ≡ fieldSeen T q s u
+  unfolding fieldSeen repetitions
+  field-same u h =
+      rw (field-struck T q s (u .field), unsplit-struck T q s (u .field), lists-same (u .field) (u .lists) (h .0))
+      (shown-same u (flatMap (leavesIn T (before T q s)) (u .lists)) (unsplit s (u .field)) (field q s (u .field)) (h .1) (h .2)
+      (lists-listed (u .field) (u .lists) (h .0)))
+
+  -- THE SEGMENT IS SEEN AS IT WAS
+  pub segment-same : fit T ≡ true → segmentSeen T q (strikeSegment T q s) ≡ segmentSeen T q s
+  unfolding segmentSeen
+  segment-same ok =
+      rw (name-struck T q s)
+      (ap (λ (vs : List Field). record { name = name s; fields = vs })
+      (map-same (fieldSeen T q (strikeSegment T q s)) (fieldSeen T q s) (rulesOf T (name s))
+      (all-map (RuleOk (Lists T q s) (Has T q s)) (λ u. fieldSeen T q (strikeSegment T q s) u ≡ fieldSeen T q s u) field-same
+      (rulesOf T (name s)) (rules-ok T q s ok))))

@@ -1,0 +1,122 @@
+-- Laws of tests over lists.
+use mathlib.Core.Path.{_≡_, refl}
+use mathlib.Core.Bool.{Bool, true, false, _&&_, _||_}
+use mathlib.Core.List.{List, [], _∷_, _++_, map, flatMap}
+use Rattle.text.specs.Bytes.{pick, every, some, keep}
+use Rattle.text.proofs.Bytes.{not-true, both}
+
+pub and-both : (a b : Bool) → a ≡ true → b ≡ true → a && b ≡ true
+and-both a b e f = rw (e, f)
+
+pub or-left : (a b : Bool) → a ≡ true → a || b ≡ true
+or-left a b e = rw e
+
+pub or-right : (a b : Bool) → b ≡ true → a || b ≡ true
+or-right true b e = refl
+or-right false b e = e
+
+-- one of the two holds: told by what follows from each
+pub or-either : {C : Type 0} (a b : Bool) → (a ≡ true → C) → (b ≡ true → C) → a || b ≡ true → C
+or-either true b f g e = f refl
+or-either false b f g e = g e
+
+pub or-none : (a b : Bool) → a || b ≡ false → (a ≡ false) × (b ≡ false)
+or-none true b e = absurd (let z : _≡_ {A = Bool} false true = cc in not-true z)
+or-none false b e = (refl, e)
+
+module _ {A : Type 0} where
+  -- something holds of each member
+  abbrev pub All : (A → Type 0) → List A → Type 0
+  All P [] = Unit
+  All P (x ∷ xs) = P x × All P xs
+
+  pub all-map : (P Q : A → Type 0) → ((x : A) → P x → Q x) → (l : List A) → All P l → All Q l
+  all-map P Q h [] a = tt
+  all-map P Q h (x ∷ l) a = (h x (a .0), all-map P Q h l (a .1))
+
+  pub all-append : (P : A → Type 0) (l r : List A) → All P l → All P r → All P (l ++ r)
+  all-append P [] r a b = b
+  all-append P (x ∷ l) r a b = (a .0, all-append P l r (a .1) b)
+
+  keep-all-step : (P : A → Type 0) (x : A) (l : List A) (b : Bool) → P x → All P l → All P (pick b (x ∷ l) l)
+  keep-all-step P x l true p a = (p, a)
+  keep-all-step P x l false p a = a
+
+  pub all-keep : (P : A → Type 0) (f : A → Bool) (l : List A) → All P l → All P (keep f l)
+  unfolding keep
+  all-keep P f [] a = tt
+  all-keep P f (x ∷ l) a = keep-all-step P x (keep f l) (f x) (a .0) (all-keep P f l (a .1))
+
+  -- the members kept pass the test
+  kept-step : (f : A → Bool) (x : A) (l : List A) (b : Bool) → f x ≡ b → All (λ y. f y ≡ true) l → All (λ y. f y ≡ true) (pick b (x ∷ l) l)
+  kept-step f x l true e a = (e, a)
+  kept-step f x l false e a = a
+
+  pub all-kept : (f : A → Bool) (l : List A) → All (λ x. f x ≡ true) (keep f l)
+  unfolding keep
+  all-kept f [] = tt
+  all-kept f (x ∷ l) = kept-step f x (keep f l) (f x) refl (all-kept f l)
+
+  pub all-both : (P Q : A → Type 0) (l : List A) → All P l → All Q l → All (λ x. P x × Q x) l
+  all-both P Q [] a b = tt
+  all-both P Q (x ∷ l) a b = ((a .0, b .0), all-both P Q l (a .1) (b .1))
+
+  pub every-all : (f : A → Bool) (l : List A) → every f l ≡ true → All (λ x. f x ≡ true) l
+  unfolding every
+  every-all f [] e = tt
+  every-all f (x ∷ l) e = let h = both (f x) (every f l) e in (h .0, every-all f l (h .1))
+
+  pub some-append-left : (f : A → Bool) (l r : List A) → some f l ≡ true → some f (l ++ r) ≡ true
+  unfolding some
+  some-append-left f [] r e = not-true e
+  some-append-left f (x ∷ l) r e =
+      or-either (f x) (some f l) (λ h. or-left (f x) (some f (l ++ r)) h)
+      (λ h. or-right (f x) (some f (l ++ r)) (some-append-left f l r h)) e
+
+  pub some-append-right : (f : A → Bool) (l r : List A) → some f r ≡ true → some f (l ++ r) ≡ true
+  unfolding some
+  some-append-right f [] r e = e
+  some-append-right f (x ∷ l) r e = or-right (f x) (some f (l ++ r)) (some-append-right f l r e)
+
+  pub some-mono : (f g : A → Bool) → ((x : A) → f x ≡ true → g x ≡ true) → (l : List A) → some f l ≡ true → some g l ≡ true
+  unfolding some
+  some-mono f g h [] e = e
+  some-mono f g h (x ∷ l) e =
+      or-either (f x) (some f l) (λ k. or-left (g x) (some g l) (h x k)) (λ k. or-right (g x) (some g l) (some-mono f g h l k)) e
+
+  -- lists made member by member in two ways that agree
+  pub map-same : {B : Type 0} (f g : A → B) (l : List A) → All (λ x. f x ≡ g x) l → map f l ≡ map g l
+  map-same f g [] a = refl
+  map-same f g (x ∷ l) a = rw (a .0, map-same f g l (a .1))
+
+  pub flatMap-same : {B : Type 0} (f g : A → List B) (l : List A) → All (λ x. f x ≡ g x) l → flatMap f l ≡ flatMap g l
+  unfolding flatMap
+  flatMap-same f g [] a = refl
+  flatMap-same f g (x ∷ l) a = rw (a .0, flatMap-same f g l (a .1))
+
+pub all-flatMap : {A B : Type 0} (P : B → Type 0) (f : A → List B) (l : List A) → All (λ x. All P (f x)) l → All P (flatMap f l)
+unfolding flatMap
+all-flatMap P f [] a = tt
+all-flatMap P f (x ∷ l) a = all-append P (f x) (flatMap f l) (a .0) (all-flatMap P f l (a .1))
+
+-- a member kept, and a test on what it is made into
+some-here : {A B : Type 0} (g : B → Bool) (f : A → List B) (x : A) (l : List A) (b : Bool) → b ≡ true → some g (f x) ≡ true
+    → some g (flatMap f (pick b (x ∷ l) l)) ≡ true
+unfolding flatMap
+some-here g f x l b e h = rw e (some-append-left g (f x) (flatMap f l) h)
+
+some-later : {A B : Type 0} (g : B → Bool) (f : A → List B) (x : A) (l : List A) (b : Bool) → some g (flatMap f l) ≡ true
+    → some g (flatMap f (pick b (x ∷ l) l)) ≡ true
+unfolding flatMap
+some-later g f x l true h = some-append-right g (f x) (flatMap f l) h
+some-later g f x l false h = h
+
+pub some-flatMap : {A B : Type 0} (k : A → Bool) (g : B → Bool) (f : A → List B) (l : List A)
+    → some (λ x. k x && some g (f x)) l ≡ true → some g (flatMap f (keep k l)) ≡ true
+unfolding some keep flatMap
+some-flatMap k g f [] e = e
+some-flatMap k g f (x ∷ l) e =
+    or-either (k x && some g (f x)) (some (λ y. k y && some g (f y)) l)
+    (λ h. some-here g f x (keep k l) (k x) (both (k x) (some g (f x)) h .0) (both (k x) (some g (f x)) h .1))
+    (λ h. some-later g f x (keep k l) (k x) (some-flatMap k g f l h))
+    e
