@@ -17,7 +17,7 @@ use Rattle.frame.specs.Segments.{name, isHeader, headerField, field, unsplit}
 use Rattle.profile.specs.Table.{Table, Leaf, Row, leavesIn}
 use Rattle.reader.specs.Place.{leafAt, leafOf}
 use Rattle.reader.specs.View.{namedIn}
-use Rattle.demands.specs.Strike.{rewritten, hasComponent, hasLeaf, strikeSubcomponent, strikeComponent, strikeRepetition, rowsAt, hasField, leavesAt, strikeField, strikeHeader, strikeOther, strikeSegment}
+use Rattle.demands.specs.Strike.{rewritten, hasComponent, hasLeaf, strikeSubcomponent, strikeComponent, strikeRepetition, rowsAt, hasField, leavesAt, strikeField, afterNinth, strikeAfterNinth, strikeHeader, strikeOther, strikeSegment}
 use Rattle.demands.proofs.Shrink.{Sub, sub-self, sub-only, sub-behind, take-front, drop-front, Shrinks, rewritten-sub, piece-rewritten, rewritten-empty}
 
 -- 1. Of a repetition, the listed leaves stay
@@ -86,14 +86,11 @@ module _ (T : Table) (q : Marks) (s : Text) where
       (leaf-kept q (leavesAt T q s f) (piece r (split (q .repetition) t)) c b h)
 
   -- 3. The segment's fields, each struck
-  abbrev later : ℕ → Text → Text
-  later k = strikeField T q s (suc (suc k))
-
-  later-shrinks : Shrinks later
-  later-shrinks k t = field-shrinks (suc (suc k)) t
+  after-shrinks : Shrinks (strikeAfterNinth T q s)
+  after-shrinks k t = field-shrinks (afterNinth k) t
 
   header-front : (j : ℕ) → j ≤ 9 → take j (strikeHeader T q s) ≡ take j s
-  header-front j h = take-front j 9 s (rewritten (q .field) later) (rewritten-empty (q .field) later later-shrinks) h
+  header-front j h = take-front j 9 s (rewritten (q .field) (strikeAfterNinth T q s)) (rewritten-empty (q .field) (strikeAfterNinth T q s) after-shrinks) h
 
   other-front : (j : ℕ) → j ≤ 4 → take j (strikeOther T q s) ≡ take j s
   other-front j h =
@@ -117,9 +114,9 @@ module _ (T : Table) (q : Marks) (s : Text) where
   header-field (suc (suc (suc i))) =
       rw (
         lt-leb (suc (suc (suc i))) 2 (omega arith),
-        drop-front 9 s (rewritten (q .field) later) (rewritten-empty (q .field) later later-shrinks),
+        drop-front 9 s (rewritten (q .field) (strikeAfterNinth T q s)) (rewritten-empty (q .field) (strikeAfterNinth T q s) after-shrinks),
       )
-      (piece-rewritten (q .field) later later-shrinks (drop 9 s) (suc i))
+      (piece-rewritten (q .field) (strikeAfterNinth T q s) after-shrinks (drop 9 s) (suc i))
 
   other-field : (f : ℕ) → piece f (split (q .field) (drop 4 (strikeOther T q s))) ≡ strikeField T q s f (piece f (split (q .field) (drop 4 s)))
   other-field f =
@@ -147,7 +144,7 @@ module _ (T : Table) (q : Marks) (s : Text) where
       rw (field-struck f, unsplit-struck f) (part-kept (unsplit s f) (field q s f) f r c b h)
 
   segment-by : (b : Bool) → Sub (pick b (strikeHeader T q s) (strikeOther T q s)) s
-  segment-by true = sub-behind 9 s (rewritten (q .field) later) (rewritten-sub (q .field) later later-shrinks)
+  segment-by true = sub-behind 9 s (rewritten (q .field) (strikeAfterNinth T q s)) (rewritten-sub (q .field) (strikeAfterNinth T q s) after-shrinks)
   segment-by false = sub-behind 4 s (rewritten (q .field) (strikeField T q s)) (rewritten-sub (q .field) (strikeField T q s) field-shrinks)
 
   pub segment-sub : Sub (strikeSegment T q s) s

@@ -17,7 +17,7 @@ use Rattle.frame.specs.Frame.{allowed, header, endsWithCR, opens, isSegment, fr
 use Rattle.frame.proofs.Frame.{Framed, framed-tests, tests-framed, closed-segments}
 use Rattle.profile.specs.Table.{Table, isListed}
 use Rattle.reader.specs.View.{segmentSeen, view}
-use Rattle.demands.specs.Strike.{rewritten, strikeField, strikeSegment, strike}
+use Rattle.demands.specs.Strike.{rewritten, strikeAfterNinth, strikeSegment, strike}
 use Rattle.demands.specs.Fit.{fit}
 use Rattle.demands.proofs.Shrink.{Sub, done, skip, hold, sub-none, sub-append, sub-free, sub-every, sub-length}
 use Rattle.demands.proofs.Kept.{front-struck, name-struck, segment-sub}
@@ -189,7 +189,7 @@ module _ (T : Table) (msh : isListed T (bytes "MSH") ≡ true) (m x : Text) (xs 
   q = marksOf m
 
   abbrev body : Text
-  body = rewritten (q .field) (λ k. strikeField T q (header q ++ x) (suc (suc k))) x
+  body = rewritten (q .field) (strikeAfterNinth T q (header q ++ x)) x
 
   first-struck : strikes T q (segments m) ≡ (header q ++ body) ∷ strikes T q xs
   unfolding strikeSegment keep same

@@ -18,7 +18,7 @@ use Rattle.profile.specs.Table.{Table, Leaf, Listed, leaf, named-by, Row, Rule,
 use Rattle.reader.specs.Place.{leafOf, repetitions}
 use Rattle.reader.specs.View.{Field, entriesOf, isFilled, filledFrom, namedIn, fieldSeen, segmentSeen}
 use Rattle.demands.specs.Strike.{change, hasLeaf, rowsAt, hasField, leavesAt, strikeField, strikeSegment}
-use Rattle.demands.specs.Fit.{listsComponent, hasRow, namerListed, fit}
+use Rattle.demands.specs.Fit.{listsComponent, hasRow, namerListed, mayRepeat, rowFit, fit}
 use Rattle.demands.proofs.Shrink.{change-length, split-rewritten, rewritten-empty}
 use Rattle.demands.proofs.Kept.{leaf-kept, unless, strikeIn, in-shrinks, name-struck, field-struck, unsplit-struck, leaf-struck}
 
@@ -137,11 +137,11 @@ module _ (T : Table) (q : Marks) (s : Text) where
       (t (λ x. same (x .segment) (name s) && eqb (x .field) (r .field)) (own-row r e))
 
   abbrev Fit : Row → Type 0
-  Fit r = leb 1 (r .repetitions) && namerListed T (r .segment) (r .lists) ≡ true
+  Fit r = rowFit T r ≡ true
 
   row-ok : (r : Row) → (Fit r × Told (T .rows) r) × (same (r .segment) (name s) ≡ true) → RowOk Lists Has r
   row-ok r h =
-      let w = both (leb 1 (r .repetitions)) (namerListed T (r .segment) (r .lists)) (h .0 .0) in
+      let w = both (mayRepeat r) (namerListed T (r .segment) (r .lists)) (h .0 .0) in
       let e = h .1 in (
         (
           same-leaves (r .lists) (rw (same-true (r .segment) (name s) e) at (w .1)),
@@ -162,7 +162,7 @@ module _ (T : Table) (q : Marks) (s : Text) where
       (all-both (λ r. Fit r × Told (T .rows) r) (λ r. named r ≡ true) (keep named (T .rows))
       (all-keep (λ r. Fit r × Told (T .rows) r) named (T .rows)
       (all-both Fit (Told (T .rows)) (T .rows)
-      (every-all (λ (r : Row). leb 1 (r .repetitions) && namerListed T (r .segment) (r .lists)) (T .rows) ok)
+      (every-all (rowFit T) (T .rows) ok)
       (all-told (T .rows))))
       (all-kept named (T .rows))))
 

@@ -23,8 +23,14 @@ namerListed T n (leaf l) = true
 namerListed T n (named-by f) = hasRow T n f 1
 
 -- repetition numbers are from 1
+abbrev pub mayRepeat : Row → Bool
+mayRepeat r = leb 1 (r .repetitions)
+
+abbrev pub rowFit : Table → Row → Bool
+rowFit T r = mayRepeat r && namerListed T (r .segment) (r .lists)
+
 unfoldable pub fit : Table → Bool
-fit T = every (λ (r : Row). leb 1 (r .repetitions) && namerListed T (r .segment) (r .lists)) (T .rows)
+fit T = every (rowFit T) (T .rows)
 
 -- a component of a field that is copied
 pub record Copied : Type 0 where

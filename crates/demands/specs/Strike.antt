@@ -58,8 +58,14 @@ strikeField T q s f t =
     onlyIf (hasField T (name s) f) (rewritten (q .repetition) (λ r p. strikeRepetition q (leavesAt T q s f) p) t)
 
 -- the header's first nine bytes stay, and MSH-3 follows them; any other segment's name stays with its separator
+abbrev pub afterNinth : ℕ → ℕ
+afterNinth k = suc (suc k)
+
+abbrev pub strikeAfterNinth : Table → Marks → Text → ℕ → Text → Text
+strikeAfterNinth T q s k t = strikeField T q s (afterNinth k) t
+
 abbrev pub strikeHeader : Table → Marks → Text → Text
-strikeHeader T q s = take 9 s ++ rewritten (q .field) (λ k. strikeField T q s (suc (suc k))) (drop 9 s)
+strikeHeader T q s = take 9 s ++ rewritten (q .field) (strikeAfterNinth T q s) (drop 9 s)
 
 abbrev pub strikeOther : Table → Marks → Text → Text
 strikeOther T q s = take 4 s ++ rewritten (q .field) (strikeField T q s) (drop 4 s)

@@ -1,36 +1,13 @@
 -- The depot's own table: the rows, the leaves of the types that OBX-2 may name, the succession and the ends.
-use Prim.Native.Nat.{ℕ}
 use Prim.Native.String as string
-use mathlib.Core.Bool.{Bool, true, false}
 use mathlib.Core.List.{List, [], _∷_, map}
 use Rattle.text.specs.Bytes.{bytes}
-use Rattle.profile.specs.Table.{Simple, NM, DTM, TM, ST, TX, FT, ID, limitOf, any, Leaf, Type-leaves, Succession, Table}
+use Rattle.profile.specs.Table.{NM, DTM, TM, ST, TX, FT, Leaf, Type-leaves, Succession, Table}
+use Rattle.profile.specs.Leaves.{simple, CE, SN}
 use Rattle.profile.specs.Rows.{rows}
-
--- component c of a simple type, with that type's limit and no list
-abbrev pub component : ℕ → Simple → Bool → Leaf
-component c t star =
-    record { component = c; subcomponent = 1; type = t; star = star; limit = limitOf t; list = any; reason = 8 }
 
 abbrev pub typed : string.String → List Leaf → Type-leaves
 typed s ls = record { type = bytes s; leaves = ls }
-
--- a simple type has component 1
-abbrev pub simple : Simple → List Leaf
-simple t = component 1 t false ∷ []
-
-abbrev pub CE : List Leaf
-CE =
-    component 1 ST true
-    ∷ component 2 ST false
-    ∷ component 3 ID false
-    ∷ component 4 ST false
-    ∷ component 5 ST false
-    ∷ component 6 ID false
-    ∷ []
-
-abbrev pub SN : List Leaf
-SN = component 1 ST false ∷ component 2 NM false ∷ component 3 ST false ∷ component 4 NM false ∷ []
 
 abbrev pub types : List Type-leaves
 types =

@@ -14,6 +14,7 @@ use Rattle.parts.specs.Split.{join, closed}
 use Rattle.frame.specs.Frame.{frameTests, header}
 use Rattle.profile.specs.Table.{Table, limitOf, IS, ST, ID}
 use Rattle.profile.specs.Lists.{processing-ids}
+use Rattle.profile.specs.Fields.{controlLimit}
 use Rattle.reader.specs.Place.{Place, place, textAt}
 use Rattle.reader.specs.Fault.{Verdict, accepted, fault, verdict, condition}
 use Rattle.reader.specs.Line.{decimal}
@@ -47,9 +48,6 @@ processing t = pick (isOne t processing-ids) t (bytes "P")
 
 abbrev pub control : Text → Text
 control m = headerLeaf m 10 1
-
-abbrev pub controlLimit : ℕ
-controlLimit = 20
 
 -- Empty, over its limit, or with a bad escape
 abbrev pub noControl : Text → Bool
