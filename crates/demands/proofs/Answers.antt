@@ -11,8 +11,9 @@ use lib.Dec.{eqb}
 use Rattle.text.specs.Bytes.{Text, pick, bytes, empty, keep, same}
 use Rattle.text.specs.Answer.{Test, test, first}
 use Rattle.text.specs.declared.refusal.Refusal.the-variants.{BadPlace, NoSegment}
-use Rattle.text.specs.Marks.{Marks, marksOf}
-use Rattle.text.proofs.Bytes.{not-true, both, same-true}
+use Rattle.text.specs.declared.marks.Marks.{Marks}
+use Rattle.text.specs.Marks.{marksOf}
+use Rattle.text.proofs.Tests.{not-true, both, same-true}
 use Rattle.text.proofs.Lists.{All, every-all, all-kept, some-mono}
 use Rattle.text.proofs.Answer.{first-passed, first-given, tell-first}
 use Rattle.parts.specs.Split.{piece}

@@ -8,8 +8,8 @@ use lib.ListN.{take, drop}
 use lib.Dec.{eqb, leb}
 use borrow.Author.Tests.{lt-leb}
 use Rattle.text.specs.Bytes.{Text, pick, empty, some}
-use Rattle.text.specs.Marks.{Marks}
-use Rattle.text.proofs.Bytes.{both}
+use Rattle.text.specs.declared.marks.Marks.{Marks}
+use Rattle.text.proofs.Tests.{both}
 use Rattle.text.proofs.Lists.{some-mono}
 use Rattle.parts.specs.Split.{split, piece}
 use Rattle.parts.specs.Descent.{part, inField}

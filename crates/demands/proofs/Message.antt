@@ -7,8 +7,9 @@ use mathlib.Core.List.{List, [], _∷_, _++_, map}
 use lib.ListN.{length, take, drop}
 use borrow.Author.Tests.{ltb-false, le-ltb}
 use Rattle.text.specs.Bytes.{Text, pick, bytes, cr, every, some, keep, same}
-use Rattle.text.specs.Marks.{Marks, marksOf}
-use Rattle.text.proofs.Bytes.{not-true, both, same-true, same-self}
+use Rattle.text.specs.declared.marks.Marks.{Marks}
+use Rattle.text.specs.Marks.{marksOf}
+use Rattle.text.proofs.Tests.{not-true, both, same-true, same-self}
 use Rattle.text.proofs.Lists.{and-both, or-none}
 use Rattle.parts.specs.Split.{closed}
 use Rattle.parts.proofs.Join.{Free, AllFree, ended-closed, ended-free}

@@ -8,8 +8,8 @@ use lib.ListN.{length}
 use lib.Dec.{eqb, leb, ltb}
 use borrow.Author.Tests.{eq-eqb, eqb-true, leb-true, le-ltb}
 use Rattle.text.specs.Bytes.{Text, pick, empty, some, keep, same}
-use Rattle.text.specs.Marks.{Marks}
-use Rattle.text.proofs.Bytes.{not-true, both, same-true}
+use Rattle.text.specs.declared.marks.Marks.{Marks}
+use Rattle.text.proofs.Tests.{not-true, both, same-true}
 use Rattle.text.proofs.Lists.{All, and-both, or-left, or-right, all-map, all-both, all-keep, all-kept, every-all, some-mono, some-flatMap, map-same, flatMap-same, all-flatMap}
 use Rattle.parts.specs.Split.{split, piece}
 use Rattle.parts.specs.Descent.{cut, part}

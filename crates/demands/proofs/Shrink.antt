@@ -6,7 +6,7 @@ use mathlib.Core.Bool.{Bool, true, false}
 use mathlib.Core.List.{List, [], _∷_, _++_}
 use lib.ListN.{length, getD, take, drop}
 use Rattle.text.specs.Bytes.{Text, every}
-use Rattle.text.proofs.Bytes.{both}
+use Rattle.text.proofs.Tests.{both}
 use Rattle.text.proofs.Lists.{and-both}
 use Rattle.parts.specs.Split.{split, piece, join, led}
 use Rattle.parts.proofs.Join.{Free, AllFree, Some, split-some, split-free, split-join, join-split}

@@ -6,7 +6,8 @@ use mathlib.Core.List.{List, [], _∷_, _++_, map, flatMap}
 use lib.ListN.{take, drop}
 use lib.Dec.{eqb}
 use Rattle.text.specs.Bytes.{Text, pick, cr, empty, some, keep, same}
-use Rattle.text.specs.Marks.{Marks, marksOf}
+use Rattle.text.specs.declared.marks.Marks.{Marks}
+use Rattle.text.specs.Marks.{marksOf}
 use Rattle.parts.specs.Split.{split, join, closed}
 use Rattle.frame.specs.Segments.{name, isHeader}
 use Rattle.profile.specs.Table.{Table, Leaf, Row, leavesIn}

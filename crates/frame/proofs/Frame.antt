@@ -8,7 +8,7 @@ use borrow.Author.Tests.{eqb-true, not-false}
 use Rattle.text.specs.Bytes.{Text, cr, empty, every, some, same}
 use Rattle.text.specs.Answer.{passes}
 use Rattle.text.specs.Marks.{marksOf}
-use Rattle.text.proofs.Bytes.{not-true}
+use Rattle.text.proofs.Tests.{not-true}
 use Rattle.text.proofs.Answer.{passes-rest}
 use Rattle.parts.specs.Split.{split, ended, closed}
 use Rattle.parts.proofs.Join.{closed-front}

@@ -6,7 +6,8 @@ use lib.ListN.{length, take, drop}
 use lib.Dec.{eqb, ltb}
 use Rattle.text.specs.Bytes.{Text, bytes, cr, printable, empty, every, some, same}
 use Rattle.text.specs.Answer.{Test, test, passes}
-use Rattle.text.specs.Marks.{Marks, marksOf}
+use Rattle.text.specs.declared.marks.Marks.{Marks}
+use Rattle.text.specs.Marks.{marksOf}
 use Rattle.text.specs.declared.refusal.Refusal.the-variants.{Empty, TooLong, BadByte, NoHeader, NoEnd, BadSegment, SecondHeader, TooMany}
 use Rattle.frame.specs.Segments.{segments, isName, isHeader}
 

@@ -5,7 +5,7 @@ use mathlib.Core.List.{List, [], _∷_}
 use lib.ListN.{take, drop}
 use lib.Dec.{leb}
 use Rattle.text.specs.Bytes.{Text, pick, bytes, cr, capital, digit, keep, same}
-use Rattle.text.specs.Marks.{Marks}
+use Rattle.text.specs.declared.marks.Marks.{Marks}
 use Rattle.parts.specs.Split.{split, piece, start, before, ended}
 
 -- THE SEGMENTS: what each CR ends

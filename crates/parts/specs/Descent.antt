@@ -3,7 +3,7 @@ use Prim.Native.Nat.{ℕ, _+_}
 use mathlib.Core.Bool.{Bool, true, false}
 use mathlib.Core.List.{List, [], _∷_}
 use Rattle.text.specs.Bytes.{Text}
-use Rattle.text.specs.Marks.{Marks}
+use Rattle.text.specs.declared.marks.Marks.{Marks}
 use Rattle.parts.specs.Split.{split, piece, start}
 
 -- one step down: what the text is cut at, and the number of the piece wanted

@@ -9,7 +9,7 @@ use lib.ListN.{length, getD, drop}
 use lib.Seq.{drop-drop}
 use lib.Dec.{ltb}
 use borrow.Author.Tests.{ltb-true}
-use Rattle.text.proofs.Bytes.{both}
+use Rattle.text.proofs.Tests.{both}
 use Rattle.profile.specs.Numbers.{rising, placeOf, placesFrom}
 
 -- a number in front of those that rise is below each of them

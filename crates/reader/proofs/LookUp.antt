@@ -1,7 +1,8 @@
 -- The text that a look-up finds is the very part of the message.
 use Prim.Native.Nat.{ℕ}
 use Rattle.text.specs.Bytes.{Text}
-use Rattle.text.specs.Marks.{Marks, marksOf}
+use Rattle.text.specs.declared.marks.Marks.{Marks}
+use Rattle.text.specs.Marks.{marksOf}
 use Rattle.parts.specs.Descent.{part, partStart, inField}
 use Rattle.parts.proofs.Split.{Stands, stands-in}
 use Rattle.parts.proofs.Descent.{part-stands}

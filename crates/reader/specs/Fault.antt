@@ -6,7 +6,8 @@ use lib.ListN.{length}
 use lib.Dec.{eqb, ltb}
 use Rattle.text.specs.Bytes.{Text, pick, empty, some, keep, same}
 use Rattle.text.specs.Answer.{Answer, first}
-use Rattle.text.specs.Marks.{Marks, marksOf}
+use Rattle.text.specs.declared.marks.Marks.{Marks}
+use Rattle.text.specs.Marks.{marksOf}
 use Rattle.text.specs.Escape.{badEscape}
 use Rattle.text.specs.Types.{tooLong}
 use Rattle.frame.specs.Frame.{frameTests}

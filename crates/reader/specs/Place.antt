@@ -3,7 +3,8 @@ use Prim.Native.Nat.{ℕ, _+_}
 use mathlib.Core.Bool.{Bool, _&&_}
 use mathlib.Core.List.{List, []}
 use Rattle.text.specs.Bytes.{Text, pick, empty}
-use Rattle.text.specs.Marks.{Marks, marksOf}
+use Rattle.text.specs.declared.marks.Marks.{Marks}
+use Rattle.text.specs.Marks.{marksOf}
 use Rattle.text.specs.Types.{_to_, isWithin}
 use Rattle.parts.specs.Descent.{cut, part, partStart, inField, inRepetition}
 use Rattle.frame.specs.Segments.{isName, occurrence, occurrenceStart, field, fieldStart, unsplit}

@@ -6,7 +6,8 @@ use mathlib.Core.List.{List, [], _∷_, map}
 use lib.ListN.{length}
 use lib.Dec.{ltb}
 use Rattle.text.specs.Bytes.{Text, pick, empty, some, keep}
-use Rattle.text.specs.Marks.{Marks, marksOf}
+use Rattle.text.specs.declared.marks.Marks.{Marks}
+use Rattle.text.specs.Marks.{marksOf}
 use Rattle.frame.specs.Segments.{segments, name, unsplit}
 use Rattle.profile.specs.Table.{Table, Leaf, Rule, isListed, rulesOf, leavesOf}
 use Rattle.reader.specs.Place.{leafAt, leafOf, repetitions}

@@ -6,7 +6,8 @@ use lib.ListN.{length}
 use lib.Dec.{eqb, ltb}
 use Rattle.text.specs.Bytes.{Text, pick, bytes, cr, empty, isOne}
 use Rattle.text.specs.Answer.{Answer, Test, test, first}
-use Rattle.text.specs.Marks.{Marks, usual, marksOf}
+use Rattle.text.specs.declared.marks.Marks.{Marks}
+use Rattle.text.specs.Marks.{usual, marksOf}
 use Rattle.text.specs.Escape.{badEscape}
 use Rattle.text.specs.Types.{tooLong, isStamp, isReplyNumber}
 use Rattle.text.specs.declared.refusal.Refusal.the-variants.{BadStamp, BadReplyNumber, NoControlNumber, NoRoom}

@@ -4,7 +4,7 @@ use mathlib.Core.Bool.{Bool, true, false}
 use mathlib.Core.List.{List, [], _∷_, _++_}
 use Rattle.text.specs.Bytes.{pick}
 use Rattle.text.specs.Answer.{Answer, refused, given, Test, first, passes, tell}
-use Rattle.text.proofs.Bytes.{not-true}
+use Rattle.text.proofs.Tests.{not-true}
 
 -- a list of tests that passes has a first one that does not apply, and a rest that passes
 pub passes-rest : (b r : Bool) → pick b false r ≡ true → (b ≡ false) × (r ≡ true)

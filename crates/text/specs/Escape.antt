@@ -6,7 +6,7 @@ use lib.ListN.{length}
 use lib.Dec.{eqb, ltb}
 use Rattle.text.specs.Bytes.{Text, pick, byte}
 use Rattle.text.specs.Answer.{Answer, test, first}
-use Rattle.text.specs.Marks.{Marks}
+use Rattle.text.specs.declared.marks.Marks.{Marks}
 use Rattle.text.specs.declared.refusal.Refusal.the-variants.{NoRoom, BadEscape}
 
 -- where a reader stands: outside an escape; behind its first \; behind the letter, which means a separator; or behind a \ that

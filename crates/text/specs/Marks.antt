@@ -1,13 +1,6 @@
 -- The five separators.
-use Prim.Native.Nat.{ℕ}
 use Rattle.text.specs.Bytes.{Text, byte}
-
-pub record Marks : Type 0 where
-  pub field : ℕ
-  pub component : ℕ
-  pub repetition : ℕ
-  pub escape : ℕ
-  pub subcomponent : ℕ
+use Rattle.text.specs.declared.marks.Marks.{Marks}
 
 -- those that our own replies are written with
 abbrev pub usual : Marks

@@ -1,6 +1,15 @@
 // Bytes, escapes and simple types; the numbers that a caller gets back.
+mod bytes;
+mod marks;
 mod refusal;
 
+pub use bytes::is_capital;
+pub use bytes::is_digit;
+pub use bytes::is_printable;
+pub use bytes::is_same;
+pub use marks::Marks;
+pub use marks::marks_of;
+pub use marks::usual_marks;
 pub use refusal::Refusal;
 pub use refusal::number;
 

@@ -5,7 +5,7 @@ use native.Mathlib.Omega.{arith}
 use mathlib.Core.Bool.{Bool, true, false}
 use mathlib.Core.List.{List, [], _∷_}
 use Rattle.text.specs.Bytes.{pick, same}
-use Rattle.text.proofs.Bytes.{same-true}
+use Rattle.text.proofs.Tests.{same-true}
 use Rattle.worked.specs.Worked.{Example, AllHold}
 
 unfoldable pub failing : List Example → List Example
