@@ -1,3 +1,6 @@
 pub mod Split
 pub mod Join
 pub mod Descent
+pub mod Reach
+pub mod Depth
+pub mod Sought

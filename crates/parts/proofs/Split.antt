@@ -1,10 +1,11 @@
 -- Laws of the splitting rule.
 use mathlib.Core.Path.{_≡_, refl, sym, ap, _∙_}
-use Prim.Native.Nat.{ℕ, zero, suc, _+_, _-_}
+use Prim.Native.Nat.{ℕ, zero, suc, _+_, _-_, _≤_}
 use native.Mathlib.Nat.{zero-sub, sub-zero, suc-sub-suc}
+use native.Mathlib.Omega.{arith}
 use mathlib.Core.Bool.{Bool, true, false}
 use mathlib.Core.List.{List, [], _∷_, _++_, append-assoc}
-use lib.ListN.{length, getD, take, drop, take-append-drop}
+use lib.ListN.{length, getD, take, drop, take-append-drop, length-take, length-drop}
 use lib.Seq.{drop-drop, take-append-seam}
 use lib.Dec.{eqb}
 use Rattle.text.specs.Bytes.{Text, pick}
@@ -45,7 +46,7 @@ later-step : (b i : ℕ) (ps : List Text) → getD (front false b ps) (suc i) []
 later-step b i [] = refl
 later-step b i (p ∷ ps) = refl
 
-before-first : (sep : ℕ) (t : Text) → before sep t 0 ≡ 0
+pub before-first : (sep : ℕ) (t : Text) → before sep t 0 ≡ 0
 unfolding before
 before-first sep [] = refl
 before-first sep (b ∷ t) = refl
@@ -72,3 +73,21 @@ piece-stands sep (b ∷ t) (suc i) = stands-step sep b t (eqb b sep) i (piece-st
 pub stands : (sep n : ℕ) (t : Text) → Stands t (start sep n t) (piece n (split sep t))
 stands sep zero t = refl
 stands sep (suc i) t = piece-stands sep t i
+
+-- a piece lies in the text
+before-le : (sep : ℕ) (t : Text) (i : ℕ) → before sep t i ≤ length t
+unfolding before
+before-le sep [] i = omega arith
+before-le sep (b ∷ t) zero = omega arith
+before-le sep (b ∷ t) (suc i) = omega (arith, before-le sep t (pick (eqb b sep) i (suc i)))
+
+start-le : (sep n : ℕ) (t : Text) → start sep n t ≤ length t
+start-le sep zero t = omega arith
+start-le sep (suc i) t = before-le sep t i
+
+stands-le : (t : Text) (k : ℕ) (p : Text) → k ≤ length t → Stands t k p → k + length p ≤ length t
+stands-le t k p l h =
+    omega (arith, ap length h, length-take (length p) (drop k t), length-drop k t)
+
+pub piece-le : (sep n : ℕ) (t : Text) → start sep n t + length (piece n (split sep t)) ≤ length t
+piece-le sep n t = stands-le t (start sep n t) (piece n (split sep t)) (start-le sep n t) (stands sep n t)

@@ -17,6 +17,11 @@ unfoldable pub split : ℕ → Text → List Text
 split sep [] = [] ∷ []
 split sep (b ∷ t) = front (eqb b sep) b (split sep t)
 
+-- how many bytes stand before the first separator; all of them where there is none
+unfoldable pub reach : ℕ → Text → ℕ
+reach sep [] = 0
+reach sep (b ∷ t) = pick (eqb b sep) 0 (suc (reach sep t))
+
 -- piece number n: no bytes where there is none
 abbrev pub piece : ℕ → List Text → Text
 piece zero ps = []

@@ -1,1 +1,102 @@
-// The one splitting rule and the descent into a part, as definitions and their laws.
+// The one splitting rule, and the descent into a part.
+ghost use mathlib.Core.Path.{_≡_};
+ghost use mathlib.Core.Bool.{false};
+ghost use Prim.Native.Nat.{_+_, _≤_};
+ghost use lib.ListN.{length, drop};
+ghost use Rattle.parts.specs.Split.{split, start, reach};
+ghost use Rattle.parts.specs.Descent.{part, partStart};
+ghost use Rattle.parts.specs.Span.{span, within, markOf, numberOf, stepsFrom};
+use text::Marks;
+
+// The bytes from start up to, not including, end.
+pub struct Span {
+    pub start: usize,
+    pub end: usize,
+}
+
+// The numbers that lead from a segment's fields to a leaf, each from 1.
+pub struct Numbers {
+    pub field: u64,
+    pub repetition: u64,
+    pub component: u64,
+    pub subcomponent: u64,
+}
+
+// Where the piece that begins at `from` ends: at the next separator, or at the text's end.
+pub fn piece_end(t: &[u8], from: usize, sep: u8) -> usize
+    ensures { λ r. ⌜ r ≡ from + reach sep (drop from (now (t .entry))) ⌝ }
+{
+    let mut i = from;
+    while i < t.len() {
+        if t[i] == sep {
+            return i;
+        }
+        i += 1;
+    }
+    i
+}
+
+// Piece number n of a text, from 1. Where there is none it is empty and stands at the text's end.
+pub fn piece(t: &[u8], sep: u8, n: u64) -> Span
+    ensures { λ r. ⌜ r ≡ span (start sep n (now (t .entry))) (Rattle.parts.specs.Split.piece n (split sep (now (t .entry)))) ⌝ }
+{
+    if n == 0 {
+        return Span { start: 0, end: 0 };
+    }
+    let mut left = n - 1;
+    let mut from = 0;
+    let mut to = piece_end(t, 0, sep);
+    while 0 < left {
+        if t.len() <= to {
+            return Span { start: to, end: to };
+        }
+        from = to + 1;
+        to = piece_end(t, from, sep);
+        left -= 1;
+    }
+    Span {
+        start: from,
+        end: to,
+    }
+}
+
+// What a text of that depth is cut at: 4 a segment's fields, 3 a field, 2 a repetition, 1 a component.
+fn mark(q: Marks, depth: usize) -> u8
+    ensures { λ r. ⌜ r ≡ markOf q depth ⌝ }
+{
+    match depth {
+        1 => q.subcomponent,
+        2 => q.component,
+        3 => q.repetition,
+        _ => q.field,
+    }
+}
+
+fn number(n: Numbers, depth: usize) -> u64
+    ensures { λ r. ⌜ r ≡ numberOf n depth ⌝ }
+{
+    match depth {
+        1 => n.subcomponent,
+        2 => n.component,
+        3 => n.repetition,
+        _ => n.field,
+    }
+}
+
+// The part of m[from..to] that the numbers lead to, from that depth down: its start and end in m.
+// Inner: the callers hold that from and to lie in m.
+pub fn descend(m: &[u8], from: usize, to: usize, q: Marks, n: Numbers, depth: usize) -> Span
+    requires { ⌜ (from ≤ to) × (to ≤ length (now m)) ⌝ }
+    ensures { λ r. ⌜ r ≡ span (from + partStart false (stepsFrom q n depth) (within from to (now (m .entry)))) (part false (stepsFrom q n depth) (within from to (now (m .entry)))) ⌝ }
+{
+    if depth == 0 {
+        return Span {
+            start: from,
+            end: to,
+        };
+    }
+    let p = piece(&m[from..to], mark(q, depth), number(n, depth));
+    let start = from + p.start;
+    let end = from + p.end;
+    descend(m, start, end, q, n, depth - 1)
+}

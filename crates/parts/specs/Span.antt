@@ -1,0 +1,36 @@
+-- What the code of the descent answers and is asked.
+use Prim.Native.Nat.{ℕ, zero, suc, _+_, _-_}
+use mathlib.Core.List.{List, [], _∷_}
+use lib.ListN.{length, take, drop}
+use Rattle.text.specs.Bytes.{Text}
+use Rattle.text.specs.declared.marks.Marks.{Marks}
+use Rattle.parts.specs.Descent.{Step, step}
+use Rattle.parts.specs.declared.Span.{Span}
+use Rattle.parts.specs.declared.Numbers.{Numbers}
+
+-- a text that stands at a start: from there up to its end
+abbrev pub span : ℕ → Text → Span
+span k p = record { start = k; end = k + length p }
+
+-- the bytes from one place of a text up to another
+abbrev pub within : ℕ → ℕ → Text → Text
+within from to m = take (to - from) (drop from m)
+
+-- what belongs to a depth: 4 a segment's fields, 3 a field, 2 a repetition, 1 a component
+abbrev pub atDepth : ℕ → ℕ → ℕ → ℕ → ℕ → ℕ
+atDepth zero f r c b = f
+atDepth (suc zero) f r c b = b
+atDepth (suc (suc zero)) f r c b = c
+atDepth (suc (suc (suc zero))) f r c b = r
+atDepth (suc (suc (suc (suc d)))) f r c b = f
+
+abbrev pub markOf : Marks → ℕ → ℕ
+markOf q d = atDepth d (q .field) (q .repetition) (q .component) (q .subcomponent)
+
+abbrev pub numberOf : Numbers → ℕ → ℕ
+numberOf n d = atDepth d (n .field) (n .repetition) (n .component) (n .subcomponent)
+
+-- the steps from a depth down to the leaf
+unfoldable pub stepsFrom : Marks → Numbers → ℕ → List Step
+stepsFrom q n zero = []
+stepsFrom q n (suc d) = step (markOf q (suc d)) (numberOf n (suc d)) ∷ stepsFrom q n d
