@@ -1,5 +1,9 @@
 -- Laws of tests over lists.
-use mathlib.Core.Path.{_≡_, refl}
+use mathlib.Core.Path.{_≡_, refl, sym, ap, _∙_}
+use Prim.Native.Nat.{ℕ, _+_, _≤_, _<_}
+use native.Mathlib.Numerals.{add-one}
+use lib.ListN.{length, getD, drop, drop-of-length-le}
+use lib.Seq.{drop-cons}
 use mathlib.Core.Bool.{Bool, true, false, _&&_, _||_}
 use mathlib.Core.List.{List, [], _∷_, _++_, map, flatMap}
 use Rattle.text.specs.Bytes.{pick, every, some, keep}
@@ -23,6 +27,39 @@ or-either false b f g e = g e
 pub or-none : (a b : Bool) → a || b ≡ false → (a ≡ false) × (b ≡ false)
 or-none true b e = absurd (let z : _≡_ {A = Bool} false true = cc in not-true z)
 or-none false b e = (refl, e)
+
+pub and-assoc : (a b c : Bool) → a && b && c ≡ a && (b && c)
+and-assoc true b c = refl
+and-assoc false b c = refl
+
+pub and-true : (b : Bool) → b && true ≡ b
+and-true true = refl
+and-true false = refl
+
+pub or-assoc : (a b c : Bool) → a || b || c ≡ a || (b || c)
+or-assoc true b c = refl
+or-assoc false b c = refl
+
+pub or-false : (b : Bool) → b || false ≡ b
+or-false true = refl
+or-false false = refl
+
+-- a test of every byte, a byte further and at the end
+pub every-on : (f : ℕ → Bool) (t : List ℕ) (i : ℕ) → i < length t → every f (drop i t) ≡ f (getD t i 0) && every f (drop (i + 1) t)
+unfolding every
+every-on f t i h = rw (add-one, drop-cons t i 0 h)
+
+pub every-seen : (f : ℕ → Bool) (t : List ℕ) (i : ℕ) (ok r all : Bool) → i < length t → r ≡ f (getD t i 0)
+    → ok && every f (drop i t) ≡ all → ok && r && every f (drop (i + 1) t) ≡ all
+every-seen f t i ok r all h e seen =
+    rw e
+    (and-assoc ok (f (getD t i 0)) (every f (drop (i + 1) t))
+    ∙ ap (λ (b : Bool). ok && b) (sym (every-on f t i h))
+    ∙ seen)
+
+pub every-end : (f : ℕ → Bool) (t : List ℕ) (i : ℕ) → length t ≤ i → every f (drop i t) ≡ true
+unfolding every
+every-end f t i h = rw (drop-of-length-le t h)
 
 module _ {A : Type 0} where
   -- something holds of each member

@@ -108,3 +108,9 @@ isStamp t = eqb (length t) 14 && every digit t && isDTM t
 -- a reply number: 1 to 20 capitals or digits
 abbrev pub isReplyNumber : Text → Bool
 isReplyNumber t = isWithin (1 to 20) (length t) && every (λ b. capital b || digit b) t
+
+-- ranges from a list of low, high, low, high
+unfoldable pub rangesOf : List ℕ → List Range
+rangesOf [] = []
+rangesOf (a ∷ []) = []
+rangesOf (a ∷ b ∷ l) = a to b ∷ rangesOf l

@@ -1,0 +1,63 @@
+-- `resolve`: a bad escape, no room, or the resolved text.
+use mathlib.Core.Path.{sym, _∙_}
+use borrow.Author.Needs.{needs}
+use Rattle.text.proofs.Escapes.{resolves-bad, resolves-full, resolves-given}
+use Rattle.text.proofs.escape.resolve.Statement.{statement}
+use Rattle.text.proofs.escape.resolve.Tie as tie
+
+usual-marks-requires : tie.Need-usual-marks-requires
+usual-marks-requires c κs = search needs
+
+bad-escape-requires : tie.Need-bad-escape-requires
+bad-escape-requires c κs = search needs
+
+returns : tie.Need-returns
+returns c =
+    let b = c .before .bad-escape in
+    let u = c .before .before .usual-marks in
+    let a = c .before .before .before .before .before .args in
+    resolves-bad (u .result) (a .text .now) (a .buffer .now) (u .ensures) (sym (b .ensures) ∙ c .if1 .taken)
+
+resolved-len-requires : tie.Need-resolved-len-requires
+resolved-len-requires c κs = sym (c .before .bad-escape .ensures) ∙ c .if1 .left
+
+returns-2 : tie.Need-returns-2
+returns-2 c =
+    let e = c .before .before in
+    let u = e .before .before .usual-marks in
+    let n = c .before .resolved-len in
+    let a = e .before .before .before .before .before .args in
+    resolves-full (u .result) (a .text .now) (a .buffer .now) (u .ensures) (n .result) (sym (e .before .bad-escape .ensures) ∙ e .if1 .left) (n .ensures)
+    (c .if2 .taken)
+
+write-resolved-requires : tie.Need-write-resolved-requires
+write-resolved-requires c κs =
+    let e = c .before .before .before in
+    let n = c .before .before .resolved-len in
+    (sym (e .before .bad-escape .ensures) ∙ e .if1 .left, rw (n .ensures) at (c .before .if2 .left))
+
+same-length : tie.Need-same-length
+same-length c = search needs
+
+returns-3 : tie.Need-returns-3
+returns-3 c =
+    let w = c .before .before in
+    let e = w .before .before .before .before in
+    let u = e .before .before .usual-marks in
+    let n = w .before .before .before .resolved-len in
+    let a = e .before .before .before .before .before .args in
+    resolves-given (u .result) (a .text .now) (a .buffer .now) (u .ensures) (n .result) _ (sym (e .before .bad-escape .ensures) ∙ e .if1 .left) (n .ensures)
+    (w .before .before .if2 .left) (w .write-resolved .ensures)
+
+pub resolve-spec : {M : Type 1} → statement M
+resolve-spec =
+    tie.close
+    (tie.spec
+    usual-marks-requires
+    bad-escape-requires
+    returns
+    resolved-len-requires
+    returns-2
+    write-resolved-requires
+    same-length
+    returns-3)

@@ -1,0 +1,128 @@
+-- `write_resolved`: each step writes one byte.
+use Prim.Native.Nat.{_+_, _-_}
+use native.Mathlib.Omega.{arith}
+use borrow.Author.Needs.{needs}
+use borrow.Author.Tests.{not-false}
+use lib.ListN.{length, getD}
+use Rattle.text.specs.Escape.{outside, endsOutside}
+use Rattle.text.specs.Step.{meant}
+use Rattle.text.proofs.Escapes.{Goes, goes-byte, goes-good, Filled, filled-first, filled-room, filled-more, filled-all}
+use Rattle.text.proofs.escape.write_resolved.Statement.{statement}
+use Rattle.text.proofs.escape.write_resolved.Tie as tie
+use Rattle.text.proofs.escape.write_resolved.Reads as reads
+use Rattle.text.proofs.escape.write_resolved.Lts as lts
+use Rattle.text.proofs.escape.meant.Reads as meant-reads
+
+abbrev Inv-loop : tie.InvT-loop
+Inv-loop q t buffer₀ n₀ i₀ buffer n i = Filled q t buffer₀ buffer n i
+
+abbrev μ-loop : tie.MeasureT-loop
+μ-loop q t buffer₀ n₀ i₀ buffer n i = length t - i
+
+loop-holds : tie.Need-loop-holds Inv-loop μ-loop
+loop-holds c =
+    let s = c .before .before in
+    let a = s .args in
+    filled-first (a .q) (a .t .now) (a .buffer .now) (not-false (endsOutside (a .q) outside (a .t .now)) (s .pre .0)) (s .pre .1)
+
+shared-slice-read-b : tie.Need-shared-slice-read-b Inv-loop μ-loop
+shared-slice-read-b c = search needs
+
+-- past an escape
+goes : (c : lts.Then1 (meant-reads.Asked, meant-reads.Learnt) reads.Pre reads.Post Inv-loop μ-loop)
+    → let at = c .before .before .before .before in
+    let a = at .before .before .before .args in
+    Goes (a .q) (a .t .now) (at .loop .i) (at .loop .i + 3) (meant (a .q) (getD (a .t .now) (at .loop .i + 1) 0))
+goes c =
+    let at = c .before .before .before .before in
+    let a = at .before .before .before .args in
+    goes-good (a .q) (a .t .now) (at .loop .i) (search needs) (c .if1 .taken) (at .loop .inv .good)
+
+add-meant : tie.Need-add-meant Inv-loop μ-loop
+add-meant c = search needs
+
+shared-slice-read-meant : tie.Need-shared-slice-read-meant Inv-loop μ-loop
+shared-slice-read-meant c = let g = goes (c .before) in omega arith
+
+meant-requires : tie.Need-meant-requires Inv-loop μ-loop
+meant-requires c κs = search needs
+
+slice-write-buffer : tie.Need-slice-write-buffer Inv-loop μ-loop
+slice-write-buffer c =
+    let l = c .before .before .before .before .before .before .loop in
+    filled-room _ _ _ (l .buffer) (l .n) (l .i) (l .inv) _ _ (goes (c .before .before))
+
+add-n : tie.Need-add-n Inv-loop μ-loop
+add-n c = let r = slice-write-buffer c in omega arith
+
+add-i : tie.Need-add-i Inv-loop μ-loop
+add-i c = let g = goes (c .before .before) in omega arith
+
+loop-less : tie.Need-loop-less Inv-loop μ-loop
+loop-less c = let g = goes (c .before .before) in omega arith
+
+loop-again : tie.Need-loop-again Inv-loop μ-loop
+loop-again c =
+    let l = c .before .before .before .before .before .before .loop in
+    rw (c .meant .ensures) (filled-more _ _ _ (l .buffer) (l .n) (l .i) (l .inv) _ _ (goes (c .before .before)))
+
+-- past a byte that is no \
+goes-2 : (c : lts.Else1 (meant-reads.Asked, meant-reads.Learnt) reads.Pre reads.Post Inv-loop μ-loop)
+    → let at = c .before .before .before .before in
+    let a = at .before .before .before .args in
+    Goes (a .q) (a .t .now) (at .loop .i) (at .loop .i + 1) (getD (a .t .now) (at .loop .i) 0)
+goes-2 c =
+    let at = c .before .before .before .before in
+    let a = at .before .before .before .args in
+    goes-byte (a .q) (a .t .now) (at .loop .i) (search needs) (c .if1 .left)
+
+slice-write-buffer-2 : tie.Need-slice-write-buffer-2 Inv-loop μ-loop
+slice-write-buffer-2 c =
+    let l = c .before .before .before .before .loop in
+    filled-room _ _ _ (l .buffer) (l .n) (l .i) (l .inv) _ _ (goes-2 c)
+
+add-n-2 : tie.Need-add-n-2 Inv-loop μ-loop
+add-n-2 c = let r = slice-write-buffer-2 c in omega arith
+
+add-i-2 : tie.Need-add-i-2 Inv-loop μ-loop
+add-i-2 c = search needs
+
+loop-less-2 : tie.Need-loop-less-2 Inv-loop μ-loop
+loop-less-2 c = search needs
+
+loop-again-2 : tie.Need-loop-again-2 Inv-loop μ-loop
+loop-again-2 c =
+    let l = c .before .before .before .before .loop in
+    filled-more _ _ _ (l .buffer) (l .n) (l .i) (l .inv) _ _ (goes-2 c)
+
+same-length : tie.Need-same-length Inv-loop μ-loop
+same-length c = search needs
+
+returns : tie.Need-returns Inv-loop μ-loop
+returns c =
+    let l = c .before .loop in
+    filled-all _ _ _ (l .buffer) (l .n) (l .i) (l .inv) (c .loop-test .left)
+
+pub write-resolved-spec : {M : Type 1} → statement M
+write-resolved-spec =
+    tie.close
+    (tie.spec
+    Inv-loop
+    μ-loop
+    loop-holds
+    shared-slice-read-b
+    add-meant
+    shared-slice-read-meant
+    meant-requires
+    slice-write-buffer
+    add-n
+    add-i
+    loop-less
+    loop-again
+    slice-write-buffer-2
+    add-n-2
+    add-i-2
+    loop-less-2
+    loop-again-2
+    same-length
+    returns)

@@ -1,0 +1,98 @@
+-- `is_reply_number`: what is left of the text decides.
+use Prim.Native.Nat.{ℕ, _-_, _≤_}
+use mathlib.Core.Path.{_≡_, sym, ap, _∙_}
+use mathlib.Core.Bool.{Bool, true, false, _&&_, _||_}
+use borrow.Author.Needs.{needs}
+use borrow.Author.Tests.{not-true, not-false}
+use lib.ListN.{length, drop}
+use Rattle.text.specs.Bytes.{Text, capital, digit, every}
+use Rattle.text.specs.Types.{_to_, isWithin, isReplyNumber}
+use Rattle.text.proofs.TypeLaws.{every-step, every-end}
+use Rattle.text.proofs.types.is_reply_number.Statement.{statement}
+use Rattle.text.proofs.types.is_reply_number.Tie as tie
+
+abbrev allowed : ℕ → Bool
+allowed b = capital b || digit b
+
+-- the length's test decides, or leaves the rest
+tested : (t : Text) (b : Bool) → isWithin (1 to 20) (length t) ≡ b → isReplyNumber t ≡ b && every allowed t
+tested t b e = ap (λ x. x && every allowed t) e
+
+either : {a b c d : Bool} → a ≡ c → b ≡ d → a || b ≡ c || d
+either e f = rw (e, f)
+
+abbrev Inv-loop : tie.InvT-loop
+Inv-loop t i₀ i = (i ≤ length t) × (every allowed (drop i t) ≡ every allowed t)
+
+abbrev μ-loop : tie.MeasureT-loop
+μ-loop t i₀ i = length t - i
+
+returns : tie.Need-returns Inv-loop μ-loop
+returns c =
+    let t = c .before .before .args .t .now in
+    sym (tested t false (not-true _ (c .if1 .taken)))
+
+loop-holds : tie.Need-loop-holds Inv-loop μ-loop
+loop-holds c = search needs
+
+shared-slice-read-is-capital : tie.Need-shared-slice-read-is-capital Inv-loop μ-loop
+shared-slice-read-is-capital c = search needs
+
+is-capital-requires : tie.Need-is-capital-requires Inv-loop μ-loop
+is-capital-requires c κs = search needs
+
+shared-slice-read-is-digit : tie.Need-shared-slice-read-is-digit Inv-loop μ-loop
+shared-slice-read-is-digit c = search needs
+
+is-digit-requires : tie.Need-is-digit-requires Inv-loop μ-loop
+is-digit-requires c κs = search needs
+
+returns-2 : tie.Need-returns-2 Inv-loop μ-loop
+returns-2 c =
+    let at = c .before .before .before .before .before .before in
+    let t = at .before .before .before .args .t .now in
+    let e = either (c .before .before .before .is-capital .ensures) (c .before .is-digit .ensures) in
+    sym (every-step allowed t (at .loop .i) false (search needs) (sym e ∙ not-true _ (c .if2 .taken)))
+    ∙ at .loop .inv .1
+    ∙ sym (tested t true (not-false _ (at .before .if1 .left)))
+
+add-i : tie.Need-add-i Inv-loop μ-loop
+add-i c = search needs
+
+loop-less : tie.Need-loop-less Inv-loop μ-loop
+loop-less c = search needs
+
+loop-again : tie.Need-loop-again Inv-loop μ-loop
+loop-again c =
+    let at = c .before .before .before .before .before .before in
+    let t = at .before .before .before .args .t .now in
+    let e = either (c .before .before .before .is-capital .ensures) (c .before .is-digit .ensures) in (
+      search needs,
+      sym (every-step allowed t (at .loop .i) true (search needs) (sym e ∙ not-false _ (c .if2 .left))) ∙ at .loop .inv .1,
+    )
+
+returns-3 : tie.Need-returns-3 Inv-loop μ-loop
+returns-3 c =
+    let at = c .before in
+    let t = at .before .before .before .args .t .now in
+    sym (every-end allowed t (at .loop .i) (c .loop-test .left))
+    ∙ at .loop .inv .1
+    ∙ sym (tested t true (not-false _ (at .before .if1 .left)))
+
+pub is-reply-number-spec : {M : Type 1} → statement M
+is-reply-number-spec =
+    tie.close
+    (tie.spec
+    Inv-loop
+    μ-loop
+    returns
+    loop-holds
+    shared-slice-read-is-capital
+    is-capital-requires
+    shared-slice-read-is-digit
+    is-digit-requires
+    returns-2
+    add-i
+    loop-less
+    loop-again
+    returns-3)

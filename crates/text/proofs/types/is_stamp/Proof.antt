@@ -1,0 +1,26 @@
+-- `is_stamp`: by the length, then as a DTM.
+use borrow.Author.Tests.{ne-eqb, eq-eqb}
+use borrow.Author.Needs.{needs}
+use lib.ListN.{length}
+use Rattle.text.proofs.types.is_stamp.Statement.{statement}
+use Rattle.text.proofs.types.is_stamp.Tie as tie
+
+returns : tie.Need-returns
+returns c =
+    let t = c .before .before .args .t .now in
+    let e = ne-eqb (length t) 14 (c .if1 .taken) in rw e
+
+is-si-requires : tie.Need-is-si-requires
+is-si-requires c κs = search needs
+
+is-dtm-requires : tie.Need-is-dtm-requires
+is-dtm-requires c κs = search needs
+
+returns-2 : tie.Need-returns-2
+returns-2 c =
+    let at = c .before .before in
+    let t = at .before .before .args .t .now in
+    let e = eq-eqb (length t) 14 (at .if1 .left) in rw (e, c .before .is-si .ensures, c .is-dtm .ensures)
+
+pub is-stamp-spec : {M : Type 1} → statement M
+is-stamp-spec = tie.close (tie.spec returns is-si-requires is-dtm-requires returns-2)

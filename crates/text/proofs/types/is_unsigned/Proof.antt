@@ -1,0 +1,49 @@
+-- `is_unsigned`: digits, and what follows them.
+use mathlib.Core.Path.{sym, _∙_}
+use borrow.Author.Tests.{lt-ltb, le-ltb}
+use borrow.Author.Needs.{needs}
+use lib.ListN.{length}
+use Rattle.text.specs.Types.{digits}
+use Rattle.text.proofs.TypeLaws.{digits-some, digits-rest, part-after-digits}
+use Rattle.text.proofs.types.is_unsigned.Statement.{statement}
+use Rattle.text.proofs.types.is_unsigned.Tie as tie
+
+digits-len-requires : tie.Need-digits-len-requires
+digits-len-requires c κs = search needs
+
+returns : tie.Need-returns
+returns c =
+    let t = c .before .before .before .args .t .now in
+    let e = sym (digits-some t) ∙ le-ltb 0 (length (digits t)) (search needs) in rw e
+
+sub-is-decimals : tie.Need-sub-is-decimals
+sub-is-decimals c = search needs
+
+part-is-decimals-start : tie.Need-part-is-decimals-start
+part-is-decimals-start c = search needs
+
+part-is-decimals-end : tie.Need-part-is-decimals-end
+part-is-decimals-end c = search needs
+
+is-decimals-requires : tie.Need-is-decimals-requires
+is-decimals-requires c κs = search needs
+
+returns-2 : tie.Need-returns-2
+returns-2 c =
+    let known = c .before .before .before in
+    let t = known .before .before .args .t .now in
+    let n = known .digits-len .ensures .0 in
+    let e = sym (digits-some t) ∙ lt-ltb 0 (length (digits t)) (search needs) in
+    rw (e, c .is-decimals .ensures, part-after-digits t (known .digits-len .result) n, n, digits-rest)
+
+pub is-unsigned-spec : {M : Type 1} → statement M
+is-unsigned-spec =
+    tie.close
+    (tie.spec
+    digits-len-requires
+    returns
+    sub-is-decimals
+    part-is-decimals-start
+    part-is-decimals-end
+    is-decimals-requires
+    returns-2)

@@ -1,0 +1,117 @@
+// Escapes: the test for a bad one, and the text that a person reads.
+use crate::Marks;
+use crate::Refusal;
+use crate::Written;
+use crate::usual_marks;
+ghost use mathlib.Core.Path.{_≡_};
+ghost use mathlib.Core.Bool.{false};
+ghost use mathlib.Core.List.{_++_};
+ghost use Prim.Native.Nat.{_≤_};
+ghost use lib.ListN.{length, drop};
+ghost use Rattle.text.specs.Escape.{badEscape, resolved};
+ghost use Rattle.text.specs.Promise.{Resolves};
+ghost use Rattle.text.specs.Step.{isLetter, isEscape};
+
+// Whether this is the letter of one of the five escapes.
+fn is_letter(b: u8) -> bool
+    ensures { λ r. ⌜ r ≡ isLetter b ⌝ }
+{
+    (b == b'F') | ((b == b'S') | ((b == b'T') | ((b == b'R') | (b == b'E'))))
+}
+
+// The separator that a letter means.
+fn meant(q: Marks, b: u8) -> u8
+    ensures { λ r. ⌜ r ≡ Rattle.text.specs.Step.meant q b ⌝ }
+{
+    match b {
+        b'F' => q.field,
+        b'S' => q.component,
+        b'T' => q.subcomponent,
+        b'R' => q.repetition,
+        _ => q.escape,
+    }
+}
+
+// Whether the \ just before i begins one of the five escapes.
+fn is_escape(q: Marks, t: &[u8], i: usize) -> bool
+    requires { ⌜ i ≤ length (now t) ⌝ }
+    ensures { λ r. ⌜ r ≡ isEscape (q .escape) (drop i (now (t .entry))) ⌝ }
+{
+    if t.len() - i < 2 {
+        return false;
+    }
+    is_letter(t[i]) & (t[i + 1] == q.escape)
+}
+
+// Whether some \ of the text begins none of the five escapes.
+pub fn bad_escape(q: Marks, t: &[u8]) -> bool
+    ensures { λ r. ⌜ r ≡ badEscape q (now (t .entry)) ⌝ }
+{
+    let mut i = 0;
+    while i < t.len() {
+        if t[i] == q.escape {
+            if !is_escape(q, t, i + 1) {
+                return true;
+            }
+            i += 3;
+        } else {
+            i += 1;
+        }
+    }
+    false
+}
+
+// How many bytes the resolved text has: with no bad escape, each \ that is read begins three bytes that stand for one.
+fn resolved_len(q: Marks, t: &[u8]) -> usize
+    requires { ⌜ badEscape q (now t) ≡ false ⌝ }
+    ensures { λ r. ⌜ r ≡ length (resolved q (now (t .entry))) ⌝ }
+{
+    let mut n = 0;
+    let mut i = 0;
+    while i < t.len() {
+        n += 1;
+        if t[i] == q.escape {
+            i += 3;
+        } else {
+            i += 1;
+        }
+    }
+    n
+}
+
+// Writes the resolved text to the front of the buffer.
+fn write_resolved(q: Marks, t: &[u8], buffer: &mut [u8])
+    requires { ⌜ (badEscape q (now t) ≡ false) × (length (resolved q (now t)) ≤ length (now buffer)) ⌝ }
+    ensures { λ _. ⌜ now (buffer .exit) ≡ resolved q (now (t .entry)) ++ drop (length (resolved q (now (t .entry)))) (now (buffer .entry)) ⌝ }
+{
+    let mut n = 0;
+    let mut i = 0;
+    while i < t.len() {
+        let b = t[i];
+        if b == q.escape {
+            buffer[n] = meant(q, t[i + 1]);
+            n += 1;
+            i += 3;
+        } else {
+            buffer[n] = b;
+            n += 1;
+            i += 1;
+        }
+    }
+}
+
+// Resolves a text with the usual separators into the buffer. Both tests are done before a byte is written.
+pub fn resolve(text: &[u8], buffer: &mut [u8]) -> Written
+    ensures { λ r. ⌜ Resolves (now (text .entry)) (now (buffer .entry)) r (now (buffer .exit)) ⌝ }
+{
+    let q = usual_marks();
+    if bad_escape(q, text) {
+        return Written::Refused(Refusal::BadEscape);
+    }
+    let n = resolved_len(q, text);
+    if buffer.len() < n {
+        return Written::Refused(Refusal::NoRoom);
+    }
+    write_resolved(q, text, buffer);
+    Written::Bytes(n)
+}
