@@ -1,2 +1,6 @@
 pub mod Segments
 pub mod Frame
+pub mod Names
+pub mod Walk
+pub mod Order
+pub mod Seek

@@ -33,6 +33,14 @@ opens q (b ∷ t) = eqb b (q .field)
 abbrev pub isSegment : Marks → Text → Bool
 isSegment q s = isName (take 3 s) && opens q (drop 3 s)
 
+-- those of the segments
+abbrev pub segmentTests : Text → List Test
+segmentTests m =
+    test BadSegment (not (every (isSegment (marksOf m)) (segments m)))
+    ∷ test SecondHeader (some isHeader (drop 1 (segments m)))
+    ∷ test TooMany (ltb 512 (length (segments m)))
+    ∷ []
+
 -- THE EIGHT TESTS
 unfoldable pub frameTests : Text → List Test
 frameTests m =
@@ -41,10 +49,7 @@ frameTests m =
     ∷ test BadByte (not (every allowed m))
     ∷ test NoHeader (not (same (take 9 m) (header (marksOf m))))
     ∷ test NoEnd (not (endsWithCR m))
-    ∷ test BadSegment (not (every (isSegment (marksOf m)) (segments m)))
-    ∷ test SecondHeader (some isHeader (drop 1 (segments m)))
-    ∷ test TooMany (ltb 512 (length (segments m)))
-    ∷ []
+    ∷ segmentTests m
 
 -- a message with a good frame
 abbrev pub framed : Text → Bool

@@ -1,2 +1,3 @@
 pub mod Segments
 pub mod Frame
+pub mod Told

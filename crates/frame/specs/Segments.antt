@@ -15,12 +15,15 @@ segments m = ended cr m
 abbrev pub name : Text → Text
 name s = take 3 s
 
+abbrev pub capitalOrDigit : ℕ → Bool
+capitalOrDigit b = capital b || digit b
+
 -- a name: a capital, then two capitals or digits
 abbrev pub isName : Text → Bool
 isName [] = false
 isName (a ∷ []) = false
 isName (a ∷ b ∷ []) = false
-isName (a ∷ b ∷ c ∷ []) = capital a && (capital b || digit b) && (capital c || digit c)
+isName (a ∷ b ∷ c ∷ []) = capital a && capitalOrDigit b && capitalOrDigit c
 isName (a ∷ b ∷ c ∷ d ∷ t) = false
 
 abbrev pub named : Text → Text → Bool

@@ -1,1 +1,10 @@
-// What the frame of a message must be, as definitions.
+// The eight frame checks; segments, their names and their occurrences.
+mod checks;
+mod segment;
+
+pub use checks::Framing;
+pub use checks::check;
+pub use segment::Standing;
+pub use segment::is_header;
+pub use segment::is_name;
+pub use segment::occurrence;

@@ -1,0 +1,60 @@
+-- `all_allowed`: what was seen and what is left decide together.
+use Rattle.text.proofs.Lists.{every-seen, every-end, and-true}
+use borrow.Author.Needs.{needs}
+use Prim.Native.Nat.{_≤_, _-_}
+use mathlib.Core.Path.{_≡_, sym, _∙_}
+use mathlib.Core.Bool.{_&&_}
+use lib.ListN.{length, drop}
+use Rattle.text.specs.Bytes.{every}
+use Rattle.frame.specs.Frame.{allowed}
+use Rattle.frame.proofs.checks.all_allowed.Statement.{statement}
+use Rattle.frame.proofs.checks.all_allowed.Tie as tie
+
+abbrev Inv-loop : tie.InvT-loop
+Inv-loop m ok₀ i₀ ok i = (i ≤ length m) × (ok && every allowed (drop i m) ≡ every allowed m)
+
+abbrev μ-loop : tie.MeasureT-loop
+μ-loop m ok₀ i₀ ok i = length m - i
+
+loop-holds : tie.Need-loop-holds Inv-loop μ-loop
+loop-holds c = search needs
+
+shared-slice-read-is-allowed : tie.Need-shared-slice-read-is-allowed Inv-loop μ-loop
+shared-slice-read-is-allowed c = search needs
+
+is-allowed-requires : tie.Need-is-allowed-requires Inv-loop μ-loop
+is-allowed-requires c κs = search needs
+
+add-i : tie.Need-add-i Inv-loop μ-loop
+add-i c = search needs
+
+loop-less : tie.Need-loop-less Inv-loop μ-loop
+loop-less c = search needs
+
+loop-again : tie.Need-loop-again Inv-loop μ-loop
+loop-again c =
+    let at = c .before .before .before in
+    let m = at .before .before .args .m .now in (
+      search needs,
+      every-seen allowed m (at .loop .i) (at .loop .ok) (c .is-allowed .result) (every allowed m) (search needs) (c .is-allowed .ensures) (at .loop .inv .1),
+    )
+
+returns : tie.Need-returns Inv-loop μ-loop
+returns c =
+    let at = c .before in
+    let m = at .before .before .args .m .now in
+    sym (and-true (at .loop .ok)) ∙ (rw (every-end allowed m (at .loop .i) (c .loop-test .left)) at (at .loop .inv .1))
+
+pub all-allowed-spec : {M : Type 1} → statement M
+all-allowed-spec =
+    tie.close
+    (tie.spec
+    Inv-loop
+    μ-loop
+    loop-holds
+    shared-slice-read-is-allowed
+    is-allowed-requires
+    add-i
+    loop-less
+    loop-again
+    returns)

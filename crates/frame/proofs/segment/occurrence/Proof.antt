@@ -1,0 +1,115 @@
+-- `occurrence`: where it stands is told from where the walk is.
+use borrow.Author.Needs.{needs}
+use Prim.Native.Nat.{_+_, _-_, _≤_}
+use mathlib.Core.Path.{_≡_}
+use mathlib.Core.Logic.{⊎-elim}
+use mathlib.Core.List.{[], _∷_}
+use native.Mathlib.Omega.{arith}
+use lib.ListN.{length, drop}
+use Rattle.text.specs.Bytes.{cr}
+use Rattle.parts.specs.Split.{reach}
+use Rattle.frame.specs.Told.{standing}
+use Rattle.frame.proofs.Seek.{Sought, sought-first, sought-this, sought-another, sought-other, sought-none}
+use Rattle.frame.proofs.segment.occurrence.Statement.{statement}
+use Rattle.frame.proofs.segment.occurrence.Tie as tie
+
+abbrev Inv-loop : tie.InvT-loop
+Inv-loop m a b c number left₀ start₀ end₀ left start end =
+    (start ≤ length m)
+    × ((end ≡ start + reach cr (drop start m))
+    × ((1 ≤ left) × Sought m (a ∷ b ∷ c ∷ []) (standing m (a ∷ b ∷ c ∷ []) number) left start))
+
+abbrev μ-loop : tie.MeasureT-loop
+μ-loop m a b c number left₀ start₀ end₀ left start end = length m - start
+
+piece-end-requires : tie.Need-piece-end-requires Inv-loop μ-loop
+piece-end-requires c κs = search needs
+
+loop-holds : tie.Need-loop-holds Inv-loop μ-loop
+loop-holds c = (search needs, (c .piece-end .ensures, (c .before .before .pre, sought-first _ _ _ (c .before .before .pre))))
+
+sub-has-name : tie.Need-sub-has-name Inv-loop μ-loop
+sub-has-name c = omega (arith, c .before .loop .inv .1 .0)
+
+part-has-name-start : tie.Need-part-has-name-start Inv-loop μ-loop
+part-has-name-start c = omega (arith, c .before .loop .inv .1 .0)
+
+part-has-name-end : tie.Need-part-has-name-end Inv-loop μ-loop
+part-has-name-end c = search needs
+
+has-name-requires : tie.Need-has-name-requires Inv-loop μ-loop
+has-name-requires c κs = search needs
+
+returns : tie.Need-returns Inv-loop μ-loop
+returns c =
+    let h = c .before .before in
+    let at = h .before .before .before in
+    let a = at .before .before .before .args in
+    let i = at .loop .inv in
+    sought-this (a .m .now) (a .a ∷ a .b ∷ a .c ∷ []) _ (at .loop .start) (at .loop .end) (i .0) (i .1 .0) (h .before .before .loop-test .taken)
+    (at .loop .left) (i .1 .1 .0) (i .1 .1 .1) (h .has-name .result) (h .has-name .ensures) (c .before .if1 .taken) (c .if2 .taken)
+
+sub-left : tie.Need-sub-left Inv-loop μ-loop
+sub-left c = search needs
+
+add-start : tie.Need-add-start Inv-loop μ-loop
+add-start c = search needs
+
+piece-end-requires-2 : tie.Need-piece-end-requires-2 Inv-loop μ-loop
+piece-end-requires-2 c κs = search needs
+
+loop-less : tie.Need-loop-less Inv-loop μ-loop
+loop-less c = search needs
+
+loop-again : tie.Need-loop-again Inv-loop μ-loop
+loop-again c =
+    let h = c .before .before in
+    let at = h .before .before .before in
+    let a = at .before .before .before .args in
+    let i = at .loop .inv in
+    let more = h .before .before .loop-test .taken in (
+      search needs,
+      (
+        c .piece-end2 .ensures,
+        ⊎-elim
+            (λ w. rw (w .2) (
+              omega (arith, w .1 .left),
+              sought-another (a .m .now) (a .a ∷ a .b ∷ a .c ∷ []) _ (at .loop .start) (at .loop .end) (i .0) (i .1 .0) more
+                  (at .loop .left) (i .1 .1 .0) (i .1 .1 .1) (h .has-name .result) (h .has-name .ensures) (w .0 .taken) (w .1 .left),
+            ))
+            (λ w. rw (w .1) (
+              i .1 .1 .0,
+              sought-other (a .m .now) (a .a ∷ a .b ∷ a .c ∷ []) _ (at .loop .start) (at .loop .end) (i .0) (i .1 .0) more
+                  (at .loop .left) (i .1 .1 .0) (i .1 .1 .1) (h .has-name .result) (h .has-name .ensures) (w .0 .left),
+            ))
+            (c .before .if1 .came),
+      ),
+    )
+
+returns-2 : tie.Need-returns-2 Inv-loop μ-loop
+returns-2 c =
+    let at = c .before in
+    let a = at .before .before .before .args in
+    let i = at .loop .inv in
+    sought-none (a .m .now) (a .a ∷ a .b ∷ a .c ∷ []) _ (at .loop .start) (at .loop .end) (i .0) (i .1 .0) (c .loop-test .left)
+    (at .loop .left) (i .1 .1 .1)
+
+pub occurrence-spec : {M : Type 1} → statement M
+occurrence-spec =
+    tie.close
+    (tie.spec
+    Inv-loop
+    μ-loop
+    piece-end-requires
+    loop-holds
+    sub-has-name
+    part-has-name-start
+    part-has-name-end
+    has-name-requires
+    returns
+    sub-left
+    add-start
+    piece-end-requires-2
+    loop-less
+    loop-again
+    returns-2)
