@@ -10,13 +10,14 @@ use borrow.Author.Tests.{lt-ltb, le-ltb, ltb-true, ltb-false}
 use Rattle.text.specs.Bytes.{Text, pick, cr, keep}
 use Rattle.parts.specs.Split.{before, reach}
 use Rattle.parts.specs.Span.{within}
-use Rattle.parts.proofs.Split.{before-first}
+use Rattle.parts.proofs.Split.{before-first, before-le, stands-le}
 use Rattle.parts.proofs.Descent.{within-length}
 use Rattle.parts.proofs.Reach.{ended-on, before-on, ended-end}
 use Rattle.frame.specs.declared.segment.Standing.{Standing}
 use Rattle.frame.specs.declared.segment.Standing.the-variants.{Missing, Segment}
-use Rattle.frame.specs.Segments.{segments, named, ofName, ahead}
-use Rattle.frame.specs.Told.{standing}
+use Rattle.frame.specs.Segments.{segments, named, ofName, ahead, occurrence, occurrenceStart}
+use Rattle.frame.specs.Told.{fewer, standing}
+use Rattle.frame.proofs.Segments.{occurrence-stands}
 
 -- the segment of a name that has i of that name before it, among those from a place on
 abbrev from-here : Text → Text → ℕ → List Text → ℕ → Standing
@@ -102,3 +103,43 @@ module _ (m n : Text) (p : Standing) (start end : ℕ) (inside : start ≤ lengt
     sought-none left h =
         let t : ltb 0 (suc (left - 1)) ≡ true = lt-ltb 0 (suc (left - 1)) (omega arith) in
         sym (rw (last, t)) ∙ h
+
+-- what an answer says of the occurrence
+segment-step : (b : Bool) (k l a e : ℕ) → Segment a e ≡ pick b Missing (Segment k l) → (b ≡ false) × ((k ≡ a) × (l ≡ e))
+segment-step true k l a e h = absurd (let z : _≡_ {A = ℕ} 0 1 = cc in omega arith)
+segment-step false k l a e h = (refl, (cc, cc))
+
+missing-step : (b : Bool) (k l : ℕ) → Missing ≡ pick b Missing (Segment k l) → b ≡ true
+missing-step true k l h = refl
+missing-step false k l h = absurd (let z : _≡_ {A = ℕ} 0 1 = cc in omega arith)
+
+pub standing-missing : (m n : Text) (o : ℕ) → Missing ≡ standing m n o → fewer m n o ≡ true
+standing-missing m n o h =
+    missing-step (fewer m n o) (occurrenceStart m n o) (occurrenceStart m n o + length (occurrence m n o)) h
+
+start-inside : (m n : Text) (o : ℕ) → occurrenceStart m n o ≤ length m
+start-inside m n zero = omega arith
+start-inside m n (suc i) = before-le cr m (ahead n (segments m) i)
+
+module _ (m n : Text) (o a e : ℕ) (h : Segment a e ≡ standing m n o) where
+  told-parts : (fewer m n o ≡ false) × ((occurrenceStart m n o ≡ a) × (occurrenceStart m n o + length (occurrence m n o) ≡ e))
+  told-parts = segment-step (fewer m n o) (occurrenceStart m n o) (occurrenceStart m n o + length (occurrence m n o)) a e h
+
+  pub standing-enough : fewer m n o ≡ false
+  standing-enough = told-parts .0
+
+  pub standing-start : occurrenceStart m n o ≡ a
+  standing-start = told-parts .1 .0
+
+  pub standing-inside : (a ≤ e) × (e ≤ length m)
+  standing-inside =
+      let s = occurrence m n o in (
+        omega (arith, told-parts .1 .0, told-parts .1 .1),
+        omega (arith, told-parts .1 .1, stands-le m (occurrenceStart m n o) s (start-inside m n o) (occurrence-stands m n o)),
+      )
+
+  pub standing-text : within a e m ≡ occurrence m n o
+  standing-text =
+      let s = occurrence m n o in
+      let l : e - a ≡ length s = omega (arith, told-parts .1 .0, told-parts .1 .1) in
+      rw (l, ← standing-start) (occurrence-stands m n o)

@@ -75,7 +75,7 @@ stands sep zero t = refl
 stands sep (suc i) t = piece-stands sep t i
 
 -- a piece lies in the text
-before-le : (sep : ℕ) (t : Text) (i : ℕ) → before sep t i ≤ length t
+pub before-le : (sep : ℕ) (t : Text) (i : ℕ) → before sep t i ≤ length t
 unfolding before
 before-le sep [] i = omega arith
 before-le sep (b ∷ t) zero = omega arith
@@ -85,7 +85,7 @@ start-le : (sep n : ℕ) (t : Text) → start sep n t ≤ length t
 start-le sep zero t = omega arith
 start-le sep (suc i) t = before-le sep t i
 
-stands-le : (t : Text) (k : ℕ) (p : Text) → k ≤ length t → Stands t k p → k + length p ≤ length t
+pub stands-le : (t : Text) (k : ℕ) (p : Text) → k ≤ length t → Stands t k p → k + length p ≤ length t
 stands-le t k p l h =
     omega (arith, ap length h, length-take (length p) (drop k t), length-drop k t)
 

@@ -1,4 +1,11 @@
-// Places, look-up and judging: what they answer, and their definitions.
+// Places, look-up and judging.
+mod leaves;
+mod places;
+mod search;
+
+pub use places::is_place;
+pub use search::find;
+pub use search::text_of;
 use text::Refusal;
 
 // A place: the name's three bytes, and the numbers as they are asked, of any size.

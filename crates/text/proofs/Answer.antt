@@ -1,9 +1,12 @@
 -- Laws of ordered refusals.
 use mathlib.Core.Path.{_≡_, refl, ap, _∙_}
+use Prim.Native.Nat.{ℕ}
+use native.Mathlib.Omega.{arith}
 use mathlib.Core.Bool.{Bool, true, false}
 use mathlib.Core.List.{List, [], _∷_, _++_}
 use Rattle.text.specs.Bytes.{pick}
 use Rattle.text.specs.Answer.{Answer, refused, given, Test, first, passes, tell}
+use Rattle.text.specs.declared.refusal.Refusal.{Refusal}
 use Rattle.text.proofs.Tests.{not-true}
 
 -- a list of tests that passes has a first one that does not apply, and a rest that passes
@@ -25,6 +28,39 @@ first-given [] a e = refl
 first-given (t ∷ ts) a e =
     let h = passes-rest (t .applies) (passes ts) e in
     rw (h .0) (first-given ts a (h .1))
+
+-- what tests answer by themselves decides what they answer in front of others
+refused-step : {A : Type 0} (b : Bool) (x r : Refusal) (s : Answer (Unit {0})) (t : Answer A)
+    → (refused r ≡ s → refused r ≡ t) → refused r ≡ pick b (refused x) s → refused r ≡ pick b (refused x) t
+refused-step true x r s t h e = cc
+refused-step false x r s t h e = h e
+
+pub first-refused : {A : Type 0} (ts us : List Test) (a : A) (r : Refusal) → refused r ≡ first ts (tt {0}) → refused r ≡ first (ts ++ us) a
+unfolding first
+first-refused [] us a r e = absurd (let z : _≡_ {A = ℕ} 0 1 = cc in omega arith)
+first-refused (t ∷ ts) us a r e =
+    refused-step (t .applies) (t .refusal) r (first ts tt) (first (ts ++ us) a) (first-refused ts us a r) e
+
+given-step : {A : Type 0} (b : Bool) (x : Refusal) (s : Answer (Unit {0})) (t u : Answer A)
+    → (given tt ≡ s → t ≡ u) → given tt ≡ pick b (refused x) s → t ≡ pick b (refused x) u
+given-step true x s t u h e = absurd (let z : _≡_ {A = ℕ} 0 1 = cc in omega arith)
+given-step false x s t u h e = h e
+
+pub first-through : {A : Type 0} (ts us : List Test) (a : A) → given (tt {0}) ≡ first ts (tt {0}) → first us a ≡ first (ts ++ us) a
+unfolding first
+first-through [] us a e = refl
+first-through (t ∷ ts) us a e =
+    given-step (t .applies) (t .refusal) (first ts tt) (first us a) (first (ts ++ us) a) (first-through ts us a) e
+
+-- what was asked for is given as it is
+asked-step : {A : Type 0} (b : Bool) (x : Refusal) (a c : A) (s : Answer A) → (given c ≡ s → c ≡ a) → given c ≡ pick b (refused x) s → c ≡ a
+asked-step true x a c s h e = absurd (let z : _≡_ {A = ℕ} 0 1 = cc in omega arith)
+asked-step false x a c s h e = h e
+
+pub first-asked : {A : Type 0} (ts : List Test) (a c : A) → given c ≡ first ts a → c ≡ a
+unfolding first
+first-asked [] a c e = cc
+first-asked (t ∷ ts) a c e = asked-step (t .applies) (t .refusal) a c (first ts a) (first-asked ts a c) e
 
 tell-step : {A B : Type 0} (f : A → B) (b : Bool) (x y : Answer A) → tell f (pick b x y) ≡ pick b (tell f x) (tell f y)
 tell-step f true x y = refl

@@ -1,0 +1,15 @@
+-- `between`: a part of no bytes is Empty.
+use mathlib.Core.Path.{ap}
+use Rattle.text.specs.Answer.{given}
+use Rattle.reader.proofs.Leaf.{between-some, between-none}
+use Rattle.reader.proofs.leaves.between.Statement.{statement}
+use Rattle.reader.proofs.leaves.between.Tie as tie
+
+returns : tie.Need-returns
+returns c = let p = c .before .before .args .p in λ k t e. ap given (between-some p k t e (c .if1 .taken))
+
+returns-2 : tie.Need-returns-2
+returns-2 c = let p = c .before .before .args .p in λ k t e. ap given (between-none p k t e (c .if1 .left))
+
+pub between-spec : {M : Type 1} → statement M
+between-spec = tie.close (tie.spec returns returns-2)

@@ -1,0 +1,50 @@
+-- `leaf`: the header's way, or that of any other segment.
+use Rattle.reader.specs.Told.{foundOf}
+use mathlib.Core.Path.{sym, ap, _∙_}
+use Rattle.text.specs.Answer.{given}
+use Rattle.parts.specs.Span.{within}
+use Rattle.reader.proofs.Leaf.{leaf-fields}
+use borrow.Author.Needs.{needs}
+use Rattle.reader.proofs.leaves.leaf.Statement.{statement}
+use Rattle.reader.proofs.leaves.leaf.Tie as tie
+
+sub-is-header : tie.Need-sub-is-header
+sub-is-header c = search needs
+
+part-is-header-start : tie.Need-part-is-header-start
+part-is-header-start c = search needs
+
+part-is-header-end : tie.Need-part-is-header-end
+part-is-header-end c = search needs
+
+is-header-requires : tie.Need-is-header-requires
+is-header-requires c κs = search needs
+
+header-leaf-requires : tie.Need-header-leaf-requires
+header-leaf-requires c κs = (c .before .before .before .before .pre, sym (c .before .is-header .ensures) ∙ c .if1 .taken)
+
+returns : tie.Need-returns
+returns c = search needs
+
+leaf-behind-requires : tie.Need-leaf-behind-requires
+leaf-behind-requires c κs = search needs
+
+returns-2 : tie.Need-returns-2
+returns-2 c =
+    let e = c .before in
+    let a = e .before .before .before .before .args in
+    leaf-fields (a .q) (a .n) (a .start) (within (a .start) (a .end) (a .m .now)) (foundOf (c .leaf-behind .result))
+    (sym (e .before .is-header .ensures) ∙ e .if1 .left) (c .leaf-behind .ensures)
+
+pub leaf-spec : {M : Type 1} → statement M
+leaf-spec =
+    tie.close
+    (tie.spec
+    sub-is-header
+    part-is-header-start
+    part-is-header-end
+    is-header-requires
+    header-leaf-requires
+    returns
+    leaf-behind-requires
+    returns-2)

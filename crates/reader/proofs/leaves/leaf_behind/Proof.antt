@@ -1,0 +1,44 @@
+-- `leaf_behind`: the descent from a segment's fields down.
+use Prim.Native.Nat.{_+_}
+use mathlib.Core.Bool.{false}
+use lib.ListN.{drop}
+use Rattle.parts.specs.Descent.{part, partStart}
+use Rattle.parts.specs.Span.{within, stepsFrom}
+use mathlib.Core.Path.{ap}
+use Rattle.text.specs.Answer.{given}
+use Rattle.reader.proofs.Leaf.{behind-short, behind-reached}
+use borrow.Author.Needs.{needs}
+use Rattle.reader.proofs.leaves.leaf_behind.Statement.{statement}
+use Rattle.reader.proofs.leaves.leaf_behind.Tie as tie
+
+sub-if1 : tie.Need-sub-if1
+sub-if1 c = search needs
+
+returns : tie.Need-returns
+returns c =
+    let o = c .before .before in
+    let a = o .args in
+    ap given (behind-short (a .m .now) (a .start) (a .end) (a .skip) (o .pre .0) (o .pre .1) (a .q) (a .n) (c .if1 .taken))
+
+add-descend : tie.Need-add-descend
+add-descend c = search needs
+
+descend-requires : tie.Need-descend-requires
+descend-requires c κs = search needs
+
+between-requires : tie.Need-between-requires
+between-requires c κs = search needs
+
+returns-2 : tie.Need-returns-2
+returns-2 c =
+    let d = c .before in
+    let o = d .before .before .before in
+    let a = o .args in
+    let ss = stepsFrom (a .q) (a .n) 4 in
+    let t = drop (a .skip) (within (a .start) (a .end) (a .m .now)) in
+    c .between .ensures (a .start + (a .skip + partStart false ss t)) (part false ss t)
+    (behind-reached (a .m .now) (a .start) (a .end) (a .skip) (o .pre .0) (o .pre .1) (a .q) (a .n) (d .descend .result) (d .descend .ensures))
+
+pub leaf-behind-spec : {M : Type 1} → statement M
+leaf-behind-spec =
+    tie.close (tie.spec sub-if1 returns add-descend descend-requires between-requires returns-2)

@@ -1,0 +1,53 @@
+-- `find_leaf`: the occurrence, then the leaf in it.
+use mathlib.Core.Path.{sym}
+use Rattle.reader.specs.Told.{foundOf}
+use Rattle.reader.proofs.LookUp.{looked-missing, looked-leaf, looked-inside}
+use borrow.Author.Needs.{needs}
+use Rattle.reader.proofs.search.find_leaf.Statement.{statement}
+use Rattle.reader.proofs.search.find_leaf.Tie as tie
+
+occurrence-requires : tie.Need-occurrence-requires
+occurrence-requires c κs = search needs
+
+enum-told : tie.Need-enum-told
+enum-told c = search needs
+
+enum-known-start : tie.Need-enum-known-start
+enum-known-start c = search needs
+
+marks-of-requires : tie.Need-marks-of-requires
+marks-of-requires c κs = search needs
+
+leaf-requires : tie.Need-leaf-requires
+leaf-requires c κs =
+    let k = c .before .before in
+    let o = k .before .before in
+    let b = o .before .before in
+    let i = looked-inside (b .args .m .now) (b .args .p) (o .occurrence .result) _ _ (o .occurrence .ensures) (sym (k .start .given .1)) in
+    (i .0, (i .1, b .pre .1))
+
+returns : tie.Need-returns
+returns c =
+    let o = c .before .before in
+    let b = o .before .before in
+    looked-missing (b .args .m .now) (b .args .p) (o .occurrence .result) (o .occurrence .ensures) (sym (c .enum-told .given .1))
+
+returns-2 : tie.Need-returns-2
+returns-2 c =
+    let k = c .before .before .before in
+    let o = k .before .before in
+    let b = o .before .before in
+    looked-leaf (b .args .m .now) (b .args .p) (o .occurrence .result) _ _ (c .before .marks-of .result) (foundOf (c .leaf .result))
+    (o .occurrence .ensures) (sym (k .start .given .1)) (c .before .marks-of .ensures) (c .leaf .ensures)
+
+pub find-leaf-spec : {M : Type 1} → statement M
+find-leaf-spec =
+    tie.close
+    (tie.spec
+    occurrence-requires
+    enum-told
+    enum-known-start
+    marks-of-requires
+    leaf-requires
+    returns
+    returns-2)

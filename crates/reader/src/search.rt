@@ -1,0 +1,66 @@
+// Looking up a place of a message.
+ghost use mathlib.Core.Path.{_≡_};
+ghost use mathlib.Core.List.{[], _∷_};
+ghost use Prim.Native.Nat.{_≤_};
+ghost use lib.ListN.{length};
+ghost use Rattle.text.specs.Answer.{test, first};
+ghost use Rattle.text.specs.declared.refusal.Refusal.the-variants.{NoSegment};
+ghost use Rattle.reader.specs.LookUp.{tooFew, found, lookUp};
+ghost use Rattle.reader.specs.Told.{placeOf, foundOf};
+ghost use Rattle.reader.specs.Part.{VeryPart, startOf, endOf, Inside};
+use crate::Found;
+use crate::Place;
+use crate::leaves::leaf;
+use crate::places::is_place;
+use frame::Framing;
+use frame::Standing;
+use frame::check;
+use frame::occurrence;
+use parts::Numbers;
+use text::Refusal;
+use text::marks_of;
+
+// NO SEGMENT, or what stands at the place.
+fn find_leaf(m: &[u8], p: Place) -> Found
+    requires { ⌜ (1 ≤ p .occurrence) × (1 ≤ p .field) ⌝ }
+    ensures { λ r. ⌜ foundOf r ≡ first (test NoSegment (tooFew (now (m .entry)) (placeOf p)) ∷ []) (found (now (m .entry)) (placeOf p)) ⌝ }
+{
+    let n = Numbers {
+        field: p.field,
+        repetition: p.repetition,
+        component: p.component,
+        subcomponent: p.subcomponent,
+    };
+    match occurrence(m, p.first, p.second, p.third, p.occurrence) {
+        Standing::Missing => Found::Refused(Refusal::NoSegment),
+        Standing::Segment { start, end } => leaf(m, start, end, marks_of(m), n),
+    }
+}
+
+// What stands at a place of a message: for callers that want the numbers and not the part.
+pub fn find(m: &[u8], p: Place) -> Found
+    ensures { λ r. ⌜ foundOf r ≡ lookUp (now (m .entry)) (placeOf p) ⌝ }
+{
+    match check(m) {
+        Framing::Refused(r) => Found::Refused(r),
+        Framing::Framed => {
+            if !is_place(p) {
+                return Found::Refused(Refusal::BadPlace);
+            }
+            find_leaf(m, p)
+        }
+    }
+}
+
+// The very part of the message that was found: no bytes, at its start, where it is no text.
+// Inner: the callers hold that what was found lies in the message.
+pub fn text_of<'a>(m: &'a [u8], f: Found) -> &'a [u8]
+    requires { ⌜ Inside f (length (now m)) ⌝ }
+    ensures { λ r. ⌜ VeryPart r (m .entry) (startOf f) (endOf f) ⌝ }
+{
+    match f {
+        Found::Text { start, end } => &m[start..end],
+        Found::Empty => &m[0..0],
+        Found::Refused(_) => &m[0..0],
+    }
+}
