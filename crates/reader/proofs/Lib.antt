@@ -1,2 +1,3 @@
 pub mod LookUp
 pub mod Leaf
+pub mod Unique

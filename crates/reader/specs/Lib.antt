@@ -6,3 +6,4 @@ pub mod Fault
 pub mod Line
 pub mod Told
 pub mod Part
+pub mod Promise

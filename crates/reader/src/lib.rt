@@ -4,7 +4,9 @@ mod places;
 mod search;
 
 pub use places::is_place;
+pub use search::LookedUp;
 pub use search::find;
+pub use search::look_up;
 pub use search::text_of;
 use text::Refusal;
 

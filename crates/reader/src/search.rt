@@ -7,6 +7,7 @@ ghost use Rattle.text.specs.Answer.{test, first};
 ghost use Rattle.text.specs.declared.refusal.Refusal.the-variants.{NoSegment};
 ghost use Rattle.reader.specs.LookUp.{tooFew, found, lookUp};
 ghost use Rattle.reader.specs.Told.{placeOf, foundOf};
+ghost use Rattle.reader.specs.Promise.{LooksUp};
 ghost use Rattle.reader.specs.Part.{VeryPart, startOf, endOf, Inside};
 use crate::Found;
 use crate::Place;
@@ -63,4 +64,19 @@ pub fn text_of<'a>(m: &'a [u8], f: Found) -> &'a [u8]
         Found::Empty => &m[0..0],
         Found::Refused(_) => &m[0..0],
     }
+}
+
+// A look-up's sort beside the very part of the message: of no text, no bytes at the message's start.
+pub struct LookedUp<'a> {
+    pub sort: Found,
+    pub text: &'a [u8],
+}
+
+// Looks up a place of a message.
+pub fn look_up<'a>(m: &'a [u8], p: Place) -> LookedUp<'a>
+    ensures { λ r. ⌜ LooksUp (m .entry) p r ⌝ }
+{
+    let sort = find(m, p);
+    let text = text_of(m, sort);
+    LookedUp { sort, text }
 }

@@ -1,0 +1,46 @@
+-- What a call promises leaves one answer.
+use Prim.Native.Nat.{ℕ}
+use native.Mathlib.Omega.{arith}
+use mathlib.Core.Path.{_≡_, sym, ap, _∙_}
+use denote.Ref.{RefT}
+use Rattle.text.specs.Bytes.{Text}
+use Rattle.parts.specs.Span.{within}
+use Rattle.reader.specs.declared.Place.{Place}
+use Rattle.reader.specs.declared.Found.{Found}
+use Rattle.reader.specs.declared.Found.the-variants as found
+use Rattle.reader.specs.declared.search.LookedUp.{LookedUp}
+use Rattle.reader.specs.LookUp.{lookUp}
+use Rattle.reader.specs.Told.{placeOf, foundOf}
+use Rattle.reader.specs.Part.{VeryPart, startOf, endOf}
+use Rattle.reader.specs.Promise.{LooksUp}
+
+-- an answer is what is told of it
+pub found-same : (f g : Found) → foundOf f ≡ foundOf g → f ≡ g
+found-same (found.Refused a) (found.Refused b) e = cc
+found-same (found.Refused a) found.Empty e = absurd (let z : _≡_ {A = ℕ} 0 1 = cc in omega arith)
+found-same (found.Refused a) (found.Text k l) e = absurd (let z : _≡_ {A = ℕ} 0 1 = cc in omega arith)
+found-same found.Empty (found.Refused b) e = absurd (let z : _≡_ {A = ℕ} 0 1 = cc in omega arith)
+found-same found.Empty found.Empty e = cc
+found-same found.Empty (found.Text k l) e = absurd (let z : _≡_ {A = ℕ} 0 1 = cc in omega arith)
+found-same (found.Text i j) (found.Refused b) e = absurd (let z : _≡_ {A = ℕ} 0 1 = cc in omega arith)
+found-same (found.Text i j) found.Empty e = absurd (let z : _≡_ {A = ℕ} 0 1 = cc in omega arith)
+found-same (found.Text i j) (found.Text k l) e = cc
+
+pub find-unique : (m : Text) (p : Place) (f g : Found) → foundOf f ≡ lookUp m (placeOf p) → foundOf g ≡ lookUp m (placeOf p) → f ≡ g
+find-unique m p f g a b = found-same f g (a ∙ sym b)
+
+-- two parts that are that very part of one message: the same bytes, in the same block, from the same byte on
+pub record SamePart (r s : RefT Text) : Type 0 where
+  pub bytes : r .now ≡ s .now
+  pub block : r .ptr .0 ≡ s .ptr .0
+  pub offset : r .ptr .1 ≡ s .ptr .1
+
+part-same : (r s m : RefT Text) (a e : ℕ) → VeryPart r m a e → VeryPart s m a e → SamePart r s
+part-same r s m a e p q =
+    record { bytes = p .bytes ∙ sym (q .bytes); block = p .block ∙ sym (q .block); offset = p .offset ∙ sym (q .offset) }
+
+pub look-up-unique : (m : RefT Text) (p : Place) (r s : LookedUp) → LooksUp m p r → LooksUp m p s
+    → (r .sort ≡ s .sort) × SamePart (r .text) (s .text)
+look-up-unique m p r s a b =
+    let e = found-same (r .sort) (s .sort) (a .sort ∙ sym (b .sort)) in
+    (e, part-same (r .text) (s .text) m (startOf (r .sort)) (endOf (r .sort)) (a .text) (rw (← e) at (b .text)))
