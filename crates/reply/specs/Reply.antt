@@ -5,6 +5,7 @@ use mathlib.Core.List.{List, [], _∷_, _++_}
 use lib.ListN.{length}
 use lib.Dec.{eqb, ltb}
 use Rattle.text.specs.Bytes.{Text, pick, bytes, cr, empty, isOne}
+use Rattle.text.specs.Decimal.{decimal}
 use Rattle.text.specs.Answer.{Answer, Test, test, first}
 use Rattle.text.specs.declared.marks.Marks.{Marks}
 use Rattle.text.specs.Marks.{usual, marksOf}
@@ -18,7 +19,6 @@ use Rattle.profile.specs.Lists.{processing-ids}
 use Rattle.profile.specs.Fields.{controlLimit}
 use Rattle.reader.specs.Place.{Place, place, textAt}
 use Rattle.reader.specs.Fault.{Verdict, accepted, fault, verdict, condition}
-use Rattle.reader.specs.Line.{decimal}
 
 -- component c of a header field: the written leaf of repetition 1
 abbrev pub headerLeaf : Text → ℕ → ℕ → Text

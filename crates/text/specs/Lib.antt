@@ -1,5 +1,7 @@
 pub mod Bytes
 pub mod Answer
+pub mod Decimal
+pub mod Puts
 pub mod Marks
 pub mod Escape
 pub mod Step

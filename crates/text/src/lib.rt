@@ -1,5 +1,6 @@
 // Bytes, escapes and simple types; the numbers that a caller gets back.
 mod bytes;
+mod decimal;
 mod escape;
 mod marks;
 mod refusal;
@@ -9,6 +10,8 @@ pub use bytes::is_capital;
 pub use bytes::is_digit;
 pub use bytes::is_printable;
 pub use bytes::is_same;
+pub use decimal::put;
+pub use decimal::put_decimal;
 pub use escape::bad_escape;
 pub use escape::resolve;
 pub use marks::Marks;

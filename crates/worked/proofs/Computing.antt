@@ -16,7 +16,8 @@ use Rattle.reader.specs.Place.{leafAt, leafStart, repetitions, textAt, startAt}
 use Rattle.reader.specs.LookUp.{lookUp}
 use Rattle.reader.specs.View.{filledFrom, fieldSeen, segmentSeen, view}
 use Rattle.reader.specs.Fault.{walk, checks, firstBroken, verdict, judge}
-use Rattle.reader.specs.Line.{digitsBefore, faultLine, textLine}
+use Rattle.text.specs.Decimal.{digitsBefore}
+use Rattle.line.specs.Line.{faultLine, textLine}
 use Rattle.reply.specs.Reply.{trimmed, copiedHD, replyText, reply}
 use Rattle.slip.specs.Slip.{observations, observationsFrom, slipText}
 use Rattle.slip.specs.Book.{file}

@@ -12,7 +12,7 @@ use Rattle.text.specs.Types.{isSI, isNM, isDTM, isTM, isStamp, isReplyNumber}
 use Rattle.profile.specs.Profile.{profile01}
 use Rattle.reader.specs.Place.{place}
 use Rattle.reader.specs.LookUp.{lookUp}
-use Rattle.reader.specs.Line.{lookLine}
+use Rattle.line.specs.Line.{lookLine}
 use Rattle.reply.specs.Reply.{reply}
 use Rattle.slip.specs.Book.{file, bookAfter}
 use Rattle.slip.specs.Read.{isSlip, readSlip}

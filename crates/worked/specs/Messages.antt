@@ -8,7 +8,8 @@ use Rattle.text.specs.Answer.{Answer, refused, given}
 use Rattle.parts.specs.Split.{closed, join}
 use Rattle.profile.specs.Profile.{profile01}
 use Rattle.reader.specs.Fault.{judge}
-use Rattle.reader.specs.Line.{deskLine, refusedLine, decimal}
+use Rattle.text.specs.Decimal.{decimal}
+use Rattle.line.specs.Line.{deskLine, refusedLine}
 use Rattle.reply.specs.Reply.{reply}
 use Rattle.slip.specs.Book.{file}
 use Rattle.slip.specs.Read.{Part}

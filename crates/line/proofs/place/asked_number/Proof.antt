@@ -1,0 +1,71 @@
+-- `asked_number`: the answer is told from where the loop stands.
+use borrow.Author.Needs.{needs}
+use borrow.Author.Tests.{not-true, not-false}
+use Prim.Native.Nat.{_-_}
+use mathlib.Core.Path.{sym, _∙_}
+use lib.ListN.{length}
+use Rattle.line.proofs.Read.{digit-low, Read, read-first, read-on, read-bad, read-all, read-empty}
+use Rattle.line.proofs.place.asked_number.Statement.{statement}
+use Rattle.line.proofs.place.asked_number.Tie as tie
+
+abbrev Inv-loop : tie.InvT-loop
+Inv-loop t n₀ i₀ n i = Read t n i
+
+abbrev μ-loop : tie.MeasureT-loop
+μ-loop t n₀ i₀ n i = length t - i
+
+returns : tie.Need-returns Inv-loop μ-loop
+returns c = sym (read-empty _ (c .if1 .taken))
+
+loop-holds : tie.Need-loop-holds Inv-loop μ-loop
+loop-holds c = read-first _
+
+shared-slice-read-b : tie.Need-shared-slice-read-b Inv-loop μ-loop
+shared-slice-read-b c = search needs
+
+is-digit-requires : tie.Need-is-digit-requires Inv-loop μ-loop
+is-digit-requires c κs = search needs
+
+returns-2 : tie.Need-returns-2 Inv-loop μ-loop
+returns-2 c =
+    let at = c .before .before .before .before in
+    sym (read-bad (at .before .before .before .args .t .now) (at .loop .n) (at .loop .i) (at .loop .inv) (search needs)
+    (sym (c .before .is-digit .ensures) ∙ not-true _ (c .if2 .taken)))
+
+behind-requires : tie.Need-behind-requires Inv-loop μ-loop
+behind-requires c κs = digit-low _ (sym (c .before .is-digit .ensures) ∙ not-false _ (c .if2 .left))
+
+add-i : tie.Need-add-i Inv-loop μ-loop
+add-i c = search needs
+
+loop-less : tie.Need-loop-less Inv-loop μ-loop
+loop-less c = search needs
+
+loop-again : tie.Need-loop-again Inv-loop μ-loop
+loop-again c =
+    let at = c .before .before .before .before .before in
+    rw (c .behind .ensures)
+    (read-on (at .before .before .before .args .t .now) (at .loop .n) (at .loop .i) (at .loop .inv) (search needs)
+    (sym (c .before .before .is-digit .ensures) ∙ not-false _ (c .before .if2 .left)))
+
+returns-3 : tie.Need-returns-3 Inv-loop μ-loop
+returns-3 c =
+    let at = c .before in
+    sym (read-all (at .before .before .before .args .t .now) (at .loop .n) (at .loop .i) (at .loop .inv) (search needs) (c .loop-test .left))
+
+pub asked-number-spec : {M : Type 1} → statement M
+asked-number-spec =
+    tie.close
+    (tie.spec
+    Inv-loop
+    μ-loop
+    returns
+    loop-holds
+    shared-slice-read-b
+    is-digit-requires
+    returns-2
+    behind-requires
+    add-i
+    loop-less
+    loop-again
+    returns-3)

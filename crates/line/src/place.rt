@@ -1,0 +1,46 @@
+// Reading a number of a place from a program's arguments.
+ghost use Prim.Native.Nat.{_+_, _*_, _-_, _≤_};
+ghost use mathlib.Core.Path.{_≡_};
+ghost use Rattle.text.specs.Bytes.{byte};
+ghost use Rattle.line.specs.Asked.{fitting, asked};
+use text::is_digit;
+
+// Every number above 65,535 is no place, so one that does not fit is given as the largest: the answer is the same.
+pub enum Asked {
+    Bad,
+    Number(u64),
+}
+
+const MOST: u64 = 18446744073709551615;
+
+// The number with one more digit.
+fn behind(n: u64, b: u8) -> u64
+    requires { ⌜ byte "0" ≤ b ⌝ }
+    ensures { λ r. ⌜ r ≡ fitting (n * 10 + (b - byte "0")) ⌝ }
+{
+    let d = (b - b'0') as u64;
+    if (MOST - d) / 10 < n {
+        return MOST;
+    }
+    n * 10 + d
+}
+
+// The number that an argument writes: bad where it is empty or not all digits.
+pub fn asked_number(t: &[u8]) -> Asked
+    ensures { λ r. ⌜ r ≡ asked (now (t .entry)) ⌝ }
+{
+    if t.len() == 0 {
+        return Asked::Bad;
+    }
+    let mut n = 0;
+    let mut i = 0;
+    while i < t.len() {
+        let b = t[i];
+        if !is_digit(b) {
+            return Asked::Bad;
+        }
+        n = behind(n, b);
+        i += 1;
+    }
+    Asked::Number(n)
+}

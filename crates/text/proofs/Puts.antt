@@ -1,0 +1,66 @@
+-- Laws of texts written into a buffer.
+use mathlib.Core.Path.{_≡_, refl, sym, ap, _∙_}
+use Prim.Native.Nat.{ℕ, suc, _+_, _≤_, _<_}
+use native.Mathlib.Numerals.{add-one}
+use native.Mathlib.Nat.{add-zero, add-assoc}
+use native.Mathlib.Omega.{arith}
+use mathlib.Core.List.{[], _∷_, _++_, append-assoc, append-nil}
+use lib.ListN.{length, take, drop, set, length-append, length-drop, take-append-drop, getD}
+use lib.Seq.{length-take-le, take-at, drop-append-add, drop-drop, set-split, append-snoc, take-suc}
+use Rattle.text.specs.Bytes.{Text}
+use Rattle.text.specs.Puts.{Puts}
+
+module _ {before : Text} {at : ℕ} {a mid : Text} {k : ℕ} (p : Puts before at a mid k) where
+  -- what stands before the end
+  head : length (take at before ++ a) ≡ k
+  head = length-append (take at before) a ∙ omega (arith, length-take-le at before (omega (arith, p .room)), p .ends)
+
+  -- the length is kept
+  pub puts-length : length mid ≡ length before
+  puts-length =
+      ap length (p .holds)
+      ∙ (length-append (take at before ++ a) (drop (at + length a) before)
+      ∙ omega (arith, head, length-drop (at + length a) before, p .room, p .ends))
+
+  pub puts-head : take k mid ≡ take at before ++ a
+  puts-head =
+      ap (take k) (p .holds) ∙ take-at (take at before ++ a) (drop (at + length a) before) k head
+
+  -- what stands behind the end is what stood there
+  pub puts-rest : (n : ℕ) → drop (k + n) mid ≡ drop (at + length a + n) before
+  puts-rest n =
+      ap (drop (k + n)) (p .holds)
+      ∙ rw (← head) (drop-append-add (take at before ++ a) (drop (at + length a) before) n ∙ drop-drop n (at + length a) before)
+
+-- nothing written
+pub puts-none : (before : Text) (at : ℕ) → at ≤ length before → Puts before at [] before at
+puts-none before at h = record { room = omega arith; holds = rw (append-nil, add-zero) (sym (take-append-drop at before)); ends = omega arith }
+
+-- one byte written
+pub puts-one : (before : Text) (at x : ℕ) → at < length before → Puts before at (x ∷ []) (set before at x) (at + 1)
+puts-one before at x h =
+    record {
+      room = omega arith;
+      holds = set-split before at x h ∙ rw (add-one at) (sym (append-snoc (take at before) x (drop (suc at) before)));
+      ends = refl;
+    }
+
+-- one text behind another is the two written as one
+pub puts-both : {before : Text} {at : ℕ} {a mid : Text} {k : ℕ} {b after : Text} {r : ℕ}
+    → Puts before at a mid k → Puts mid k b after r → Puts before at (a ++ b) after r
+puts-both {before} {at} {a} {mid} {k} {b} {after} {r} p q =
+    let l = length-append a b in
+    let m = puts-length p in
+    record {
+      room = omega (arith, l, m, p .ends, q .room);
+      holds =
+          q .holds
+          ∙ rw (puts-head p, puts-rest p (length b), append-assoc (take at before) a b, l, add-assoc);
+      ends = omega (arith, l, p .ends, q .ends);
+    }
+
+-- one byte more of a text
+pub puts-on : {before : Text} {at : ℕ} (t : Text) (i : ℕ) {mid : Text} {k : ℕ}
+    → i < length t → k < length mid → Puts before at (take i t) mid k → Puts before at (take (i + 1) t) (set mid k (getD t i 0)) (k + 1)
+puts-on {before} {at} t i {mid} {k} h l p =
+    rw (add-one i, take-suc t i 0) (puts-both p (puts-one mid k (getD t i 0) l))
