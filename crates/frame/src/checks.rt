@@ -8,7 +8,7 @@ ghost use Rattle.frame.specs.Frame.{allowed, header, segmentTests, frame
 ghost use Rattle.frame.specs.Told.{framingOf};
 use crate::segment::is_header;
 use crate::segment::is_segment;
-use parts::piece_end;
+use parts::far_end;
 use text::Refusal;
 use text::is_printable;
 use text::is_same;
@@ -55,7 +55,7 @@ fn check_segments(m: &[u8]) -> Framing
     let mut second = false;
     let mut count: usize = 0;
     let mut start = 0;
-    let mut end = piece_end(m, 0, b'\r');
+    let mut end = far_end(m, 0, b'\r');
     while end < m.len() {
         let s = &m[start..end];
         if !is_segment(q, s) {
@@ -64,7 +64,7 @@ fn check_segments(m: &[u8]) -> Framing
         second = second | ((0 < start) & is_header(s));
         count += 1;
         start = end + 1;
-        end = piece_end(m, start, b'\r');
+        end = far_end(m, start, b'\r');
     }
     if second {
         return Framing::Refused(Refusal::SecondHeader);

@@ -5,7 +5,7 @@ ghost use Prim.Native.Nat.{_≤_};
 ghost use Rattle.frame.specs.Segments.{isName, named, isHeader};
 ghost use Rattle.frame.specs.Frame.{isSegment};
 ghost use Rattle.frame.specs.Told.{standing};
-use parts::piece_end;
+use parts::far_end;
 use text::Marks;
 use text::is_capital;
 use text::is_digit;
@@ -64,7 +64,7 @@ pub fn occurrence(m: &[u8], a: u8, b: u8, c: u8, number: u64) -> Standing
 {
     let mut left = number;
     let mut start = 0;
-    let mut end = piece_end(m, 0, b'\r');
+    let mut end = far_end(m, 0, b'\r');
     while end < m.len() {
         if has_name(&m[start..end], a, b, c) {
             if left <= 1 {
@@ -73,7 +73,7 @@ pub fn occurrence(m: &[u8], a: u8, b: u8, c: u8, number: u64) -> Standing
             left -= 1;
         }
         start = end + 1;
-        end = piece_end(m, start, b'\r');
+        end = far_end(m, start, b'\r');
     }
     Standing::Missing
 }

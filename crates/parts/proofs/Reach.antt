@@ -3,13 +3,14 @@ use mathlib.Core.Path.{_≡_, refl, sym, ap, _∙_}
 use Prim.Native.Nat.{ℕ, zero, suc, _+_, _-_, _≤_, _<_}
 use native.Mathlib.Numerals.{add-one}
 use native.Mathlib.Omega.{arith}
-use mathlib.Core.Bool.{Bool, true, false}
+use mathlib.Core.Bool.{Bool, true, false, _||_}
 use mathlib.Core.List.{List, [], _∷_, dropLast}
 use lib.ListN.{length, getD, take, drop, length-drop, drop-of-length-le}
 use lib.Seq.{drop-cons, drop-drop, length-take-le}
 use lib.Dec.{eqb}
-use borrow.Author.Tests.{eq-eqb, ne-eqb}
+use borrow.Author.Tests.{eq-eqb, ne-eqb, eqb-false}
 use Rattle.text.specs.Bytes.{Text, pick}
+use Rattle.text.proofs.Lists.{or-none}
 use Rattle.parts.specs.Split.{front, split, before, reach, ended}
 use Rattle.parts.proofs.Join.{Some, split-some}
 
@@ -108,6 +109,15 @@ module _ (sep : ℕ) where
   pub reach-end : (t : Text) (i : ℕ) → length t ≤ i → reach sep (drop i t) ≡ 0
   unfolding reach
   reach-end t i h = rw (drop-of-length-le t h)
+
+  -- no separator among the bytes seen
+  pub none-seen : (t : Text) (from k : ℕ) (seen : Bool) → from + k < length t
+      → (seen ≡ false → reach sep (drop from t) ≡ k + reach sep (drop (from + k) t))
+      → seen || eqb (getD t (from + k) 0) sep ≡ false → reach sep (drop from t) ≡ k + 1 + reach sep (drop (from + (k + 1)) t)
+  none-seen t from k seen h s e =
+      let o = or-none seen (eqb (getD t (from + k) 0) sep) e in
+      let a : from + (k + 1) ≡ from + k + 1 = omega arith in
+      rw a (omega (arith, s (o .0), reach-on t (from + k) h (eqb-false (getD t (from + k) 0) sep (o .1))))
 
   -- the same told by positions: a piece that begins at `from` ends at `to`
   module _ (t : Text) (from to : ℕ) (inside : from ≤ length t) (ends : to ≡ from + reach sep (drop from t)) where

@@ -36,6 +36,35 @@ pub fn piece_end(t: &[u8], from: usize, sep: u8) -> usize
     i
 }
 
+// Whether one of sixteen bytes is the separator: no early way out, so that they are compared at once.
+fn sixteen_have(t: &[u8], from: usize, sep: u8) -> bool
+    requires { ⌜ from + 16 ≤ length (now t) ⌝ }
+    ensures { λ r. ⌜ (r ≡ false → reach sep (drop from (now (t .entry))) ≡ 16 + reach sep (drop (from + 16) (now (t .entry)))) ⌝ }
+{
+    let mut some = false;
+    let mut k = 0;
+    while k < 16 {
+        some = some | (t[from + k] == sep);
+        k += 1;
+    }
+    some
+}
+
+// The same end, found faster where separators stand far apart. Inner: the callers hold that `from` lies in the text.
+pub fn far_end(t: &[u8], from: usize, sep: u8) -> usize
+    requires { ⌜ from ≤ length (now t) ⌝ }
+    ensures { λ r. ⌜ r ≡ from + reach sep (drop from (now (t .entry))) ⌝ }
+{
+    let mut i = from;
+    while 16 <= t.len() - i {
+        if sixteen_have(t, i, sep) {
+            return piece_end(t, i, sep);
+        }
+        i += 16;
+    }
+    piece_end(t, i, sep)
+}
+
 // Piece number n of a text, from 1. Where there is none it is empty and stands at the text's end.
 pub fn piece(t: &[u8], sep: u8, n: u64) -> Span
     ensures { λ r. ⌜ r ≡ span (start sep n (now (t .entry))) (Rattle.parts.specs.Split.piece n (split sep (now (t .entry)))) ⌝ }

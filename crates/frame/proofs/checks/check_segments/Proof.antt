@@ -21,11 +21,11 @@ abbrev μ-loop : tie.MeasureT-loop
 marks-of-requires : tie.Need-marks-of-requires Inv-loop μ-loop
 marks-of-requires c κs = search needs
 
-piece-end-requires : tie.Need-piece-end-requires Inv-loop μ-loop
-piece-end-requires c κs = search needs
+far-end-requires : tie.Need-far-end-requires Inv-loop μ-loop
+far-end-requires c κs = search needs
 
 loop-holds : tie.Need-loop-holds Inv-loop μ-loop
-loop-holds c = (c .before .marks-of .ensures, walked-first _ _ (c .piece-end .ensures))
+loop-holds c = (c .before .marks-of .ensures, walked-first _ _ (c .far-end .ensures))
 
 sub-s : tie.Need-sub-s Inv-loop μ-loop
 sub-s c = omega (arith, c .before .loop .inv .1 .ends)
@@ -55,8 +55,8 @@ add-count c = search needs
 add-start : tie.Need-add-start Inv-loop μ-loop
 add-start c = search needs
 
-piece-end-requires-2 : tie.Need-piece-end-requires-2 Inv-loop μ-loop
-piece-end-requires-2 c κs = search needs
+far-end-requires-2 : tie.Need-far-end-requires-2 Inv-loop μ-loop
+far-end-requires-2 c κs = search needs
 
 loop-less : tie.Need-loop-less Inv-loop μ-loop
 loop-less c = search needs
@@ -67,7 +67,7 @@ loop-again c =
     let m = at .before .before .before .before .args .m .now in (
       at .loop .inv .0,
       walked-on m (at .loop .second) (at .loop .count) (at .loop .start) (at .loop .end) (at .loop .inv .1) (c .before .before .before .before .before .loop-test .taken)
-          _ _ _ _ (at .loop .inv .0) (c .before .before .before .is-segment .ensures) (not-false (c .before .before .before .is-segment .result) (c .before .before .if1 .left)) (c .before .is-header .ensures) (c .piece-end2 .ensures),
+          _ _ _ _ (at .loop .inv .0) (c .before .before .before .is-segment .ensures) (not-false (c .before .before .before .is-segment .result) (c .before .before .if1 .left)) (c .before .is-header .ensures) (c .far-end2 .ensures),
     )
 
 returns-2 : tie.Need-returns-2 Inv-loop μ-loop
@@ -95,7 +95,7 @@ check-segments-spec =
     Inv-loop
     μ-loop
     marks-of-requires
-    piece-end-requires
+    far-end-requires
     loop-holds
     sub-s
     part-s-start
@@ -105,7 +105,7 @@ check-segments-spec =
     is-header-requires
     add-count
     add-start
-    piece-end-requires-2
+    far-end-requires-2
     loop-less
     loop-again
     returns-2

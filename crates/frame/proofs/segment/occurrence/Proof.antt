@@ -22,11 +22,11 @@ Inv-loop m a b c number left₀ start₀ end₀ left start end =
 abbrev μ-loop : tie.MeasureT-loop
 μ-loop m a b c number left₀ start₀ end₀ left start end = length m - start
 
-piece-end-requires : tie.Need-piece-end-requires Inv-loop μ-loop
-piece-end-requires c κs = search needs
+far-end-requires : tie.Need-far-end-requires Inv-loop μ-loop
+far-end-requires c κs = search needs
 
 loop-holds : tie.Need-loop-holds Inv-loop μ-loop
-loop-holds c = (search needs, (c .piece-end .ensures, (c .before .before .pre, sought-first _ _ _ (c .before .before .pre))))
+loop-holds c = (search needs, (c .far-end .ensures, (c .before .before .pre, sought-first _ _ _ (c .before .before .pre))))
 
 sub-has-name : tie.Need-sub-has-name Inv-loop μ-loop
 sub-has-name c = omega (arith, c .before .loop .inv .1 .0)
@@ -55,8 +55,8 @@ sub-left c = search needs
 add-start : tie.Need-add-start Inv-loop μ-loop
 add-start c = search needs
 
-piece-end-requires-2 : tie.Need-piece-end-requires-2 Inv-loop μ-loop
-piece-end-requires-2 c κs = search needs
+far-end-requires-2 : tie.Need-far-end-requires-2 Inv-loop μ-loop
+far-end-requires-2 c κs = search needs
 
 loop-less : tie.Need-loop-less Inv-loop μ-loop
 loop-less c = search needs
@@ -70,7 +70,7 @@ loop-again c =
     let more = h .before .before .loop-test .taken in (
       search needs,
       (
-        c .piece-end2 .ensures,
+        c .far-end2 .ensures,
         ⊎-elim
             (λ w. rw (w .2) (
               omega (arith, w .1 .left),
@@ -100,7 +100,7 @@ occurrence-spec =
     (tie.spec
     Inv-loop
     μ-loop
-    piece-end-requires
+    far-end-requires
     loop-holds
     sub-has-name
     part-has-name-start
@@ -109,7 +109,7 @@ occurrence-spec =
     returns
     sub-left
     add-start
-    piece-end-requires-2
+    far-end-requires-2
     loop-less
     loop-again
     returns-2)

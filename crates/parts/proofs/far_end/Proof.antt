@@ -1,0 +1,65 @@
+-- `far_end`: the end is told from where the loop stands.
+use borrow.Author.Needs.{needs}
+use Prim.Native.Nat.{_+_, _-_, _≤_}
+use mathlib.Core.Path.{_≡_, refl, _∙_}
+use native.Mathlib.Omega.{arith}
+use lib.ListN.{length, drop}
+use Rattle.parts.specs.Split.{reach}
+use Rattle.parts.proofs.far_end.Statement.{statement}
+use Rattle.parts.proofs.far_end.Tie as tie
+
+abbrev Inv-loop : tie.InvT-loop
+Inv-loop t from sep i₀ i = (i ≤ length t) × (i + reach sep (drop i t) ≡ from + reach sep (drop from t))
+
+abbrev μ-loop : tie.MeasureT-loop
+μ-loop t from sep i₀ i = length t - i
+
+loop-holds : tie.Need-loop-holds Inv-loop μ-loop
+loop-holds c = (search needs, refl)
+
+sub-loop : tie.Need-sub-loop Inv-loop μ-loop
+sub-loop c = search needs
+
+sixteen-have-requires : tie.Need-sixteen-have-requires Inv-loop μ-loop
+sixteen-have-requires c κs = search needs
+
+piece-end-requires : tie.Need-piece-end-requires Inv-loop μ-loop
+piece-end-requires c κs = search needs
+
+returns : tie.Need-returns Inv-loop μ-loop
+returns c = c .piece-end .ensures ∙ c .before .before .before .before .loop .inv .1
+
+add-i : tie.Need-add-i Inv-loop μ-loop
+add-i c = search needs
+
+loop-less : tie.Need-loop-less Inv-loop μ-loop
+loop-less c = search needs
+
+loop-again : tie.Need-loop-again Inv-loop μ-loop
+loop-again c =
+    let h = c .before in
+    let at = h .before .before in
+    (search needs, omega (arith, at .loop .inv .1, h .sixteen-have .ensures (c .if1 .left)))
+
+piece-end-requires-2 : tie.Need-piece-end-requires-2 Inv-loop μ-loop
+piece-end-requires-2 c κs = search needs
+
+returns-2 : tie.Need-returns-2 Inv-loop μ-loop
+returns-2 c = c .piece-end2 .ensures ∙ c .before .before .loop .inv .1
+
+pub far-end-spec : {M : Type 1} → statement M
+far-end-spec =
+    tie.close
+    (tie.spec
+    Inv-loop
+    μ-loop
+    loop-holds
+    sub-loop
+    sixteen-have-requires
+    piece-end-requires
+    returns
+    add-i
+    loop-less
+    loop-again
+    piece-end-requires-2
+    returns-2)

@@ -1,0 +1,61 @@
+-- `sixteen_have`: while no separator was seen, the end is so much further on.
+use borrow.Author.Needs.{needs}
+use Prim.Native.Nat.{_+_, _-_, _≤_}
+use mathlib.Core.Path.{_≡_, refl}
+use mathlib.Core.Bool.{false}
+use native.Mathlib.Omega.{arith}
+use lib.ListN.{length, drop}
+use Rattle.parts.specs.Split.{reach}
+use Rattle.parts.proofs.Reach.{none-seen}
+use Rattle.parts.proofs.sixteen_have.Statement.{statement}
+use Rattle.parts.proofs.sixteen_have.Tie as tie
+
+abbrev Inv-loop : tie.InvT-loop
+Inv-loop t from sep some₀ k₀ some k = (k ≤ 16) × (some ≡ false → reach sep (drop from t) ≡ k + reach sep (drop (from + k) t))
+
+abbrev μ-loop : tie.MeasureT-loop
+μ-loop t from sep some₀ k₀ some k = 16 - k
+
+loop-holds : tie.Need-loop-holds Inv-loop μ-loop
+loop-holds c =
+    let a = c .args in
+    let z : a .from + 0 ≡ a .from = omega arith in
+    (search needs, λ e. rw z (omega arith))
+
+add-some : tie.Need-add-some Inv-loop μ-loop
+add-some c = search needs
+
+shared-slice-read-some : tie.Need-shared-slice-read-some Inv-loop μ-loop
+shared-slice-read-some c = search needs
+
+add-k : tie.Need-add-k Inv-loop μ-loop
+add-k c = search needs
+
+loop-less : tie.Need-loop-less Inv-loop μ-loop
+loop-less c = search needs
+
+loop-again : tie.Need-loop-again Inv-loop μ-loop
+loop-again c =
+    let at = c .before .before in
+    let a = at .before .args in
+    (search needs, none-seen (a .sep) (a .t .now) (a .from) (at .loop .k) (at .loop .some) (search needs) (at .loop .inv .1))
+
+returns : tie.Need-returns Inv-loop μ-loop
+returns c =
+    let at = c .before in
+    let z : at .loop .k ≡ 16 = omega arith in
+    λ e. rw z at (at .loop .inv .1 e)
+
+pub sixteen-have-spec : {M : Type 1} → statement M
+sixteen-have-spec =
+    tie.close
+    (tie.spec
+    Inv-loop
+    μ-loop
+    loop-holds
+    add-some
+    shared-slice-read-some
+    add-k
+    loop-less
+    loop-again
+    returns)
