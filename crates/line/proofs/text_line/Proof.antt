@@ -7,18 +7,6 @@ use borrow.Author.Needs.{needs}
 use Rattle.line.proofs.text_line.Statement.{statement}
 use Rattle.line.proofs.text_line.Tie as tie
 
-slice-aggregate-put : tie.Need-slice-aggregate-put
-slice-aggregate-put c = search needs
-
-put-requires : tie.Need-put-requires
-put-requires c κs = search needs
-
-put-decimal-requires : tie.Need-put-decimal-requires
-put-decimal-requires c κs = search needs
-
-slice-aggregate-put-2 : tie.Need-slice-aggregate-put-2
-slice-aggregate-put-2 c = search needs
-
 put-requires-2 : tie.Need-put-requires-2
 put-requires-2 c κs = omega (arith, decimal-ends _ (c .before .before .before .before .put-decimal .ensures))
 
@@ -26,9 +14,6 @@ put-decimal-requires-2 : tie.Need-put-decimal-requires-2
 put-decimal-requires-2 c κs =
     let s = c .before .before .before in
     omega (arith, decimal-ends _ (s .before .before .before .before .before .put-decimal .ensures))
-
-slice-aggregate-put-3 : tie.Need-slice-aggregate-put-3
-slice-aggregate-put-3 c = search needs
 
 put-requires-3 : tie.Need-put-requires-3
 put-requires-3 c κs =
@@ -38,9 +23,6 @@ put-requires-3 c κs =
     let p = s .put2 .ensures in
     let q = d .put-decimal2 .ensures in
     omega (arith, decimal-ends _ q, puts-length q, p .ends, puts-length p, decimal-ends _ (b .put-decimal .ensures))
-
-same-length : tie.Need-same-length
-same-length c = search needs
 
 returns : tie.Need-returns
 returns c =
@@ -58,13 +40,13 @@ pub text-line-spec : {M : Type 1} → statement M
 text-line-spec =
     tie.close
     (tie.spec
-    slice-aggregate-put
-    put-requires
-    put-decimal-requires
-    slice-aggregate-put-2
+    (λ c. search needs)
+    (λ c κs. search needs)
+    (λ c κs. search needs)
+    (λ c. search needs)
     put-requires-2
     put-decimal-requires-2
-    slice-aggregate-put-3
+    (λ c. search needs)
     put-requires-3
-    same-length
+    (λ c. search needs)
     returns)

@@ -17,32 +17,14 @@ abbrev μ-loop : tie.MeasureT-loop
 loop-holds : tie.Need-loop-holds Inv-loop μ-loop
 loop-holds c = (search needs, refl)
 
-sub-loop : tie.Need-sub-loop Inv-loop μ-loop
-sub-loop c = search needs
-
-sixteen-have-requires : tie.Need-sixteen-have-requires Inv-loop μ-loop
-sixteen-have-requires c κs = search needs
-
-piece-end-requires : tie.Need-piece-end-requires Inv-loop μ-loop
-piece-end-requires c κs = search needs
-
 returns : tie.Need-returns Inv-loop μ-loop
 returns c = c .piece-end .ensures ∙ c .before .before .before .before .loop .inv .1
-
-add-i : tie.Need-add-i Inv-loop μ-loop
-add-i c = search needs
-
-loop-less : tie.Need-loop-less Inv-loop μ-loop
-loop-less c = search needs
 
 loop-again : tie.Need-loop-again Inv-loop μ-loop
 loop-again c =
     let h = c .before in
     let at = h .before .before in
     (search needs, omega (arith, at .loop .inv .1, h .sixteen-have .ensures (c .if1 .left)))
-
-piece-end-requires-2 : tie.Need-piece-end-requires-2 Inv-loop μ-loop
-piece-end-requires-2 c κs = search needs
 
 returns-2 : tie.Need-returns-2 Inv-loop μ-loop
 returns-2 c = c .piece-end2 .ensures ∙ c .before .before .loop .inv .1
@@ -54,12 +36,12 @@ far-end-spec =
     Inv-loop
     μ-loop
     loop-holds
-    sub-loop
-    sixteen-have-requires
-    piece-end-requires
+    (λ c. search needs)
+    (λ c κs. search needs)
+    (λ c κs. search needs)
     returns
-    add-i
-    loop-less
+    (λ c. search needs)
+    (λ c. search needs)
     loop-again
-    piece-end-requires-2
+    (λ c κs. search needs)
     returns-2)

@@ -24,12 +24,6 @@ abbrev μ-loop : tie.MeasureT-loop
 returns : tie.Need-returns Inv-loop μ-loop
 returns c = rw (c .if1 .taken)
 
-sub-left : tie.Need-sub-left Inv-loop μ-loop
-sub-left c = search needs
-
-piece-end-requires : tie.Need-piece-end-requires Inv-loop μ-loop
-piece-end-requires c κs = search needs
-
 loop-holds : tie.Need-loop-holds Inv-loop μ-loop
 loop-holds c = (search needs, (c .piece-end .ensures, sought-first _ _ _ (c .before .if1 .left)))
 
@@ -39,18 +33,6 @@ returns-2 c =
     let a = at .before .before .before .before .args in
     sought-none (a .sep) (a .t .now) _ (at .loop .from) (at .loop .to) (at .loop .inv .0) (at .loop .inv .1 .0)
     (at .loop .left) (c .before .loop-test .taken) (c .if2 .taken) (at .loop .inv .1 .1)
-
-add-from : tie.Need-add-from Inv-loop μ-loop
-add-from c = search needs
-
-piece-end-requires-2 : tie.Need-piece-end-requires-2 Inv-loop μ-loop
-piece-end-requires-2 c κs = search needs
-
-sub-left-2 : tie.Need-sub-left-2 Inv-loop μ-loop
-sub-left-2 c = search needs
-
-loop-less : tie.Need-loop-less Inv-loop μ-loop
-loop-less c = search needs
 
 loop-again : tie.Need-loop-again Inv-loop μ-loop
 loop-again c =
@@ -78,13 +60,13 @@ piece-spec =
     Inv-loop
     μ-loop
     returns
-    sub-left
-    piece-end-requires
+    (λ c. search needs)
+    (λ c κs. search needs)
     loop-holds
     returns-2
-    add-from
-    piece-end-requires-2
-    sub-left-2
-    loop-less
+    (λ c. search needs)
+    (λ c κs. search needs)
+    (λ c. search needs)
+    (λ c. search needs)
     loop-again
     returns-3)

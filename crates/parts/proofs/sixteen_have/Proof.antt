@@ -22,18 +22,6 @@ loop-holds c =
     let z : a .from + 0 ≡ a .from = omega arith in
     (search needs, λ e. rw z (omega arith))
 
-add-some : tie.Need-add-some Inv-loop μ-loop
-add-some c = search needs
-
-shared-slice-read-some : tie.Need-shared-slice-read-some Inv-loop μ-loop
-shared-slice-read-some c = search needs
-
-add-k : tie.Need-add-k Inv-loop μ-loop
-add-k c = search needs
-
-loop-less : tie.Need-loop-less Inv-loop μ-loop
-loop-less c = search needs
-
 loop-again : tie.Need-loop-again Inv-loop μ-loop
 loop-again c =
     let at = c .before .before in
@@ -53,9 +41,9 @@ sixteen-have-spec =
     Inv-loop
     μ-loop
     loop-holds
-    add-some
-    shared-slice-read-some
-    add-k
-    loop-less
+    (λ c. search needs)
+    (λ c. search needs)
+    (λ c. search needs)
+    (λ c. search needs)
     loop-again
     returns)

@@ -13,17 +13,11 @@ returns-2 c =
     let o = c .before .before .before in
     says-long (o .args .m .now) (c .before .if1 .left) (c .if2 .taken)
 
-all-allowed-requires : tie.Need-all-allowed-requires
-all-allowed-requires c κs = search needs
-
 returns-3 : tie.Need-returns-3
 returns-3 c =
     let b = c .before .before in
     let o = b .before .before .before in
     says-byte (o .args .m .now) (b .before .if1 .left) (b .if2 .left) _ (c .before .all-allowed .ensures) (c .if3 .taken)
-
-has-header-requires : tie.Need-has-header-requires
-has-header-requires c κs = search needs
 
 returns-4 : tie.Need-returns-4
 returns-4 c =
@@ -33,12 +27,6 @@ returns-4 c =
     says-header (o .args .m .now) (b .before .if1 .left) (b .if2 .left) _ (d .all-allowed .ensures) (c .before .before .if3 .left)
     _ (c .before .has-header .ensures) (c .if4 .taken)
 
-sub-if5 : tie.Need-sub-if5
-sub-if5 c = search needs
-
-shared-slice-read-if5 : tie.Need-shared-slice-read-if5
-shared-slice-read-if5 c = search needs
-
 returns-5 : tie.Need-returns-5
 returns-5 c =
     let h = c .before .before .before in
@@ -47,9 +35,6 @@ returns-5 c =
     let o = b .before .before .before in
     says-end (o .args .m .now) (b .before .if1 .left) (b .if2 .left) _ (d .all-allowed .ensures) (h .before .if3 .left)
     _ (h .has-header .ensures) (c .before .before .if4 .left) (c .if5 .taken)
-
-check-segments-requires : tie.Need-check-segments-requires
-check-segments-requires c κs = search needs
 
 returns-6 : tie.Need-returns-6
 returns-6 c =
@@ -67,12 +52,12 @@ check-spec =
     (tie.spec
     returns
     returns-2
-    all-allowed-requires
+    (λ c κs. search needs)
     returns-3
-    has-header-requires
+    (λ c κs. search needs)
     returns-4
-    sub-if5
-    shared-slice-read-if5
+    (λ c. search needs)
+    (λ c. search needs)
     returns-5
-    check-segments-requires
+    (λ c κs. search needs)
     returns-6)

@@ -18,12 +18,6 @@ Inv-loop m q second₀ count₀ start₀ end₀ second count start end = (q ≡ 
 abbrev μ-loop : tie.MeasureT-loop
 μ-loop m q second₀ count₀ start₀ end₀ second count start end = length m - start
 
-marks-of-requires : tie.Need-marks-of-requires Inv-loop μ-loop
-marks-of-requires c κs = search needs
-
-far-end-requires : tie.Need-far-end-requires Inv-loop μ-loop
-far-end-requires c κs = search needs
-
 loop-holds : tie.Need-loop-holds Inv-loop μ-loop
 loop-holds c = (c .before .marks-of .ensures, walked-first _ _ (c .far-end .ensures))
 
@@ -33,33 +27,12 @@ sub-s c = omega (arith, c .before .loop .inv .1 .ends)
 part-s-start : tie.Need-part-s-start Inv-loop μ-loop
 part-s-start c = omega (arith, c .before .loop .inv .1 .ends)
 
-part-s-end : tie.Need-part-s-end Inv-loop μ-loop
-part-s-end c = search needs
-
-is-segment-requires : tie.Need-is-segment-requires Inv-loop μ-loop
-is-segment-requires c κs = search needs
-
 returns : tie.Need-returns Inv-loop μ-loop
 returns c =
     let at = c .before .before .before .before in
     let m = at .before .before .before .before .args .m .now in
     walked-bad m (at .loop .second) (at .loop .count) (at .loop .start) (at .loop .end) (at .loop .inv .1) (c .before .before .before .loop-test .taken)
     _ _ (at .loop .inv .0) (c .before .is-segment .ensures) (not-true (c .before .is-segment .result) (c .if1 .taken))
-
-is-header-requires : tie.Need-is-header-requires Inv-loop μ-loop
-is-header-requires c κs = search needs
-
-add-count : tie.Need-add-count Inv-loop μ-loop
-add-count c = search needs
-
-add-start : tie.Need-add-start Inv-loop μ-loop
-add-start c = search needs
-
-far-end-requires-2 : tie.Need-far-end-requires-2 Inv-loop μ-loop
-far-end-requires-2 c κs = search needs
-
-loop-less : tie.Need-loop-less Inv-loop μ-loop
-loop-less c = search needs
 
 loop-again : tie.Need-loop-again Inv-loop μ-loop
 loop-again c =
@@ -94,19 +67,19 @@ check-segments-spec =
     (tie.spec
     Inv-loop
     μ-loop
-    marks-of-requires
-    far-end-requires
+    (λ c κs. search needs)
+    (λ c κs. search needs)
     loop-holds
     sub-s
     part-s-start
-    part-s-end
-    is-segment-requires
+    (λ c. search needs)
+    (λ c κs. search needs)
     returns
-    is-header-requires
-    add-count
-    add-start
-    far-end-requires-2
-    loop-less
+    (λ c κs. search needs)
+    (λ c. search needs)
+    (λ c. search needs)
+    (λ c κs. search needs)
+    (λ c. search needs)
     loop-again
     returns-2
     returns-3

@@ -8,15 +8,6 @@ use Rattle.frame.proofs.segment.has_name.Tie as tie
 returns : tie.Need-returns
 returns c = let a = c .before .args in sym (named-short (a .a) (a .b) (a .c) (a .s .now) (c .if1 .taken))
 
-shared-slice-read-result : tie.Need-shared-slice-read-result
-shared-slice-read-result c = search needs
-
-shared-slice-read-result-2 : tie.Need-shared-slice-read-result-2
-shared-slice-read-result-2 c = search needs
-
-shared-slice-read-result-3 : tie.Need-shared-slice-read-result-3
-shared-slice-read-result-3 c = search needs
-
 returns-2 : tie.Need-returns-2
 returns-2 c =
     let e = c .before .before .before in
@@ -28,7 +19,7 @@ has-name-spec =
     tie.close
     (tie.spec
     returns
-    shared-slice-read-result
-    shared-slice-read-result-2
-    shared-slice-read-result-3
+    (λ c. search needs)
+    (λ c. search needs)
+    (λ c. search needs)
     returns-2)

@@ -22,9 +22,6 @@ Inv-loop m a b c number left₀ start₀ end₀ left start end =
 abbrev μ-loop : tie.MeasureT-loop
 μ-loop m a b c number left₀ start₀ end₀ left start end = length m - start
 
-far-end-requires : tie.Need-far-end-requires Inv-loop μ-loop
-far-end-requires c κs = search needs
-
 loop-holds : tie.Need-loop-holds Inv-loop μ-loop
 loop-holds c = (search needs, (c .far-end .ensures, (c .before .before .pre, sought-first _ _ _ (c .before .before .pre))))
 
@@ -34,12 +31,6 @@ sub-has-name c = omega (arith, c .before .loop .inv .1 .0)
 part-has-name-start : tie.Need-part-has-name-start Inv-loop μ-loop
 part-has-name-start c = omega (arith, c .before .loop .inv .1 .0)
 
-part-has-name-end : tie.Need-part-has-name-end Inv-loop μ-loop
-part-has-name-end c = search needs
-
-has-name-requires : tie.Need-has-name-requires Inv-loop μ-loop
-has-name-requires c κs = search needs
-
 returns : tie.Need-returns Inv-loop μ-loop
 returns c =
     let h = c .before .before in
@@ -48,18 +39,6 @@ returns c =
     let i = at .loop .inv in
     sought-this (a .m .now) (a .a ∷ a .b ∷ a .c ∷ []) _ (at .loop .start) (at .loop .end) (i .0) (i .1 .0) (h .before .before .loop-test .taken)
     (at .loop .left) (i .1 .1 .0) (i .1 .1 .1) (h .has-name .result) (h .has-name .ensures) (c .before .if1 .taken) (c .if2 .taken)
-
-sub-left : tie.Need-sub-left Inv-loop μ-loop
-sub-left c = search needs
-
-add-start : tie.Need-add-start Inv-loop μ-loop
-add-start c = search needs
-
-far-end-requires-2 : tie.Need-far-end-requires-2 Inv-loop μ-loop
-far-end-requires-2 c κs = search needs
-
-loop-less : tie.Need-loop-less Inv-loop μ-loop
-loop-less c = search needs
 
 loop-again : tie.Need-loop-again Inv-loop μ-loop
 loop-again c =
@@ -100,16 +79,16 @@ occurrence-spec =
     (tie.spec
     Inv-loop
     μ-loop
-    far-end-requires
+    (λ c κs. search needs)
     loop-holds
     sub-has-name
     part-has-name-start
-    part-has-name-end
-    has-name-requires
+    (λ c. search needs)
+    (λ c κs. search needs)
     returns
-    sub-left
-    add-start
-    far-end-requires-2
-    loop-less
+    (λ c. search needs)
+    (λ c. search needs)
+    (λ c κs. search needs)
+    (λ c. search needs)
     loop-again
     returns-2)

@@ -20,12 +20,6 @@ returns c = sym (read-empty _ (c .if1 .taken))
 loop-holds : tie.Need-loop-holds Inv-loop μ-loop
 loop-holds c = read-first _
 
-shared-slice-read-b : tie.Need-shared-slice-read-b Inv-loop μ-loop
-shared-slice-read-b c = search needs
-
-is-digit-requires : tie.Need-is-digit-requires Inv-loop μ-loop
-is-digit-requires c κs = search needs
-
 returns-2 : tie.Need-returns-2 Inv-loop μ-loop
 returns-2 c =
     let at = c .before .before .before .before in
@@ -34,12 +28,6 @@ returns-2 c =
 
 behind-requires : tie.Need-behind-requires Inv-loop μ-loop
 behind-requires c κs = digit-low _ (sym (c .before .is-digit .ensures) ∙ not-false _ (c .if2 .left))
-
-add-i : tie.Need-add-i Inv-loop μ-loop
-add-i c = search needs
-
-loop-less : tie.Need-loop-less Inv-loop μ-loop
-loop-less c = search needs
 
 loop-again : tie.Need-loop-again Inv-loop μ-loop
 loop-again c =
@@ -61,11 +49,11 @@ asked-number-spec =
     μ-loop
     returns
     loop-holds
-    shared-slice-read-b
-    is-digit-requires
+    (λ c. search needs)
+    (λ c κs. search needs)
     returns-2
     behind-requires
-    add-i
-    loop-less
+    (λ c. search needs)
+    (λ c. search needs)
     loop-again
     returns-3)

@@ -5,13 +5,10 @@ use Rattle.line.proofs.place.behind.Statement.{statement}
 use Rattle.line.proofs.place.behind.Tie as tie
 
 -- the number is the largest, or the sum fits
-returns : tie.Need-returns
-returns c = omega arith
-
 returns-2 : tie.Need-returns-2
 returns-2 c = omega arith
 
 pub behind-spec : {M : Type 1} → statement M
 behind-spec =
     tie.close
-    (tie.spec (λ c. search needs) (λ c. search needs) (λ c. search needs) returns (λ c. search needs) (λ c. search needs) returns-2)
+    (tie.spec (λ c. search needs) (λ c. search needs) (λ c. search needs) (λ c. omega arith) (λ c. search needs) (λ c. search needs) returns-2)

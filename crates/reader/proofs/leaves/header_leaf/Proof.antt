@@ -11,12 +11,6 @@ use borrow.Author.Needs.{needs}
 use Rattle.reader.proofs.leaves.header_leaf.Statement.{statement}
 use Rattle.reader.proofs.leaves.header_leaf.Tie as tie
 
-sub-t8 : tie.Need-sub-t8
-sub-t8 c = search needs
-
-leaf-behind-requires : tie.Need-leaf-behind-requires
-leaf-behind-requires c κs = search needs
-
 returns : tie.Need-returns
 returns c =
     let o = c .before .before .before .before .before in
@@ -30,9 +24,6 @@ returns-2 c =
     let n = o .args .n in
     ap given (header-none (o .args .q) (n .repetition) (n .component) (n .subcomponent) (o .args .start) (within (o .args .start) (o .args .end) (o .args .m .now)) (o .pre .1) (n .field) (e .if1 .left) (c .if2 .taken))
 
-clip-requires : tie.Need-clip-requires
-clip-requires c κs = search needs
-
 returns-3 : tie.Need-returns-3
 returns-3 c =
     let d = c .before .before .before in
@@ -43,9 +34,6 @@ returns-3 c =
     let s = within (a .start) (a .end) (a .m .now) in
     c .clip .ensures (drop 3 (take 4 s)) (clip-length (a .m .now) (a .start) (a .end) (o .pre .0 .0) (o .pre .0 .1 .0) 3 4)
     ∙ ap given (header-first (a .q) (n .repetition) (n .component) (n .subcomponent) (a .start) s (o .pre .1) (n .field) (c .before .if3 .taken) (d .if2 .left))
-
-clip-requires-2 : tie.Need-clip-requires-2
-clip-requires-2 c κs = search needs
 
 returns-4 : tie.Need-returns-4
 returns-4 c =
@@ -62,11 +50,11 @@ pub header-leaf-spec : {M : Type 1} → statement M
 header-leaf-spec =
     tie.close
     (tie.spec
-    sub-t8
-    leaf-behind-requires
+    (λ c. search needs)
+    (λ c κs. search needs)
     returns
     returns-2
-    clip-requires
+    (λ c κs. search needs)
     returns-3
-    clip-requires-2
+    (λ c κs. search needs)
     returns-4)

@@ -8,26 +8,8 @@ use borrow.Author.Needs.{needs}
 use Rattle.reader.proofs.leaves.leaf.Statement.{statement}
 use Rattle.reader.proofs.leaves.leaf.Tie as tie
 
-sub-is-header : tie.Need-sub-is-header
-sub-is-header c = search needs
-
-part-is-header-start : tie.Need-part-is-header-start
-part-is-header-start c = search needs
-
-part-is-header-end : tie.Need-part-is-header-end
-part-is-header-end c = search needs
-
-is-header-requires : tie.Need-is-header-requires
-is-header-requires c κs = search needs
-
 header-leaf-requires : tie.Need-header-leaf-requires
 header-leaf-requires c κs = (c .before .before .before .before .pre, sym (c .before .is-header .ensures) ∙ c .if1 .taken)
-
-returns : tie.Need-returns
-returns c = search needs
-
-leaf-behind-requires : tie.Need-leaf-behind-requires
-leaf-behind-requires c κs = search needs
 
 returns-2 : tie.Need-returns-2
 returns-2 c =
@@ -40,11 +22,11 @@ pub leaf-spec : {M : Type 1} → statement M
 leaf-spec =
     tie.close
     (tie.spec
-    sub-is-header
-    part-is-header-start
-    part-is-header-end
-    is-header-requires
+    (λ c. search needs)
+    (λ c. search needs)
+    (λ c. search needs)
+    (λ c κs. search needs)
     header-leaf-requires
-    returns
-    leaf-behind-requires
+    (λ c. search needs)
+    (λ c κs. search needs)
     returns-2)

@@ -11,23 +11,11 @@ use borrow.Author.Needs.{needs}
 use Rattle.reader.proofs.leaves.leaf_behind.Statement.{statement}
 use Rattle.reader.proofs.leaves.leaf_behind.Tie as tie
 
-sub-if1 : tie.Need-sub-if1
-sub-if1 c = search needs
-
 returns : tie.Need-returns
 returns c =
     let o = c .before .before in
     let a = o .args in
     ap given (behind-short (a .m .now) (a .start) (a .end) (a .skip) (o .pre .0) (o .pre .1) (a .q) (a .n) (c .if1 .taken))
-
-add-descend : tie.Need-add-descend
-add-descend c = search needs
-
-descend-requires : tie.Need-descend-requires
-descend-requires c κs = search needs
-
-between-requires : tie.Need-between-requires
-between-requires c κs = search needs
 
 returns-2 : tie.Need-returns-2
 returns-2 c =
@@ -41,4 +29,4 @@ returns-2 c =
 
 pub leaf-behind-spec : {M : Type 1} → statement M
 leaf-behind-spec =
-    tie.close (tie.spec sub-if1 returns add-descend descend-requires between-requires returns-2)
+    tie.close (tie.spec (λ c. search needs) returns (λ c. search needs) (λ c κs. search needs) (λ c κs. search needs) returns-2)

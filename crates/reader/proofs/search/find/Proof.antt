@@ -5,18 +5,6 @@ use borrow.Author.Needs.{needs}
 use Rattle.reader.proofs.search.find.Statement.{statement}
 use Rattle.reader.proofs.search.find.Tie as tie
 
-check-requires : tie.Need-check-requires
-check-requires c κs = search needs
-
-enum-known-r : tie.Need-enum-known-r
-enum-known-r c = search needs
-
-enum-told : tie.Need-enum-told
-enum-told c = search needs
-
-is-place-requires : tie.Need-is-place-requires
-is-place-requires c κs = search needs
-
 returns : tie.Need-returns
 returns c =
     let t = c .before .before in
@@ -49,10 +37,10 @@ pub find-spec : {M : Type 1} → statement M
 find-spec =
     tie.close
     (tie.spec
-    check-requires
-    enum-known-r
-    enum-told
-    is-place-requires
+    (λ c κs. search needs)
+    (λ c. search needs)
+    (λ c. search needs)
+    (λ c κs. search needs)
     returns
     find-leaf-requires
     returns-2

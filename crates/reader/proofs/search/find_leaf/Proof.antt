@@ -6,18 +6,6 @@ use borrow.Author.Needs.{needs}
 use Rattle.reader.proofs.search.find_leaf.Statement.{statement}
 use Rattle.reader.proofs.search.find_leaf.Tie as tie
 
-occurrence-requires : tie.Need-occurrence-requires
-occurrence-requires c κs = search needs
-
-enum-told : tie.Need-enum-told
-enum-told c = search needs
-
-enum-known-start : tie.Need-enum-known-start
-enum-known-start c = search needs
-
-marks-of-requires : tie.Need-marks-of-requires
-marks-of-requires c κs = search needs
-
 leaf-requires : tie.Need-leaf-requires
 leaf-requires c κs =
     let k = c .before .before in
@@ -44,10 +32,10 @@ pub find-leaf-spec : {M : Type 1} → statement M
 find-leaf-spec =
     tie.close
     (tie.spec
-    occurrence-requires
-    enum-told
-    enum-known-start
-    marks-of-requires
+    (λ c κs. search needs)
+    (λ c. search needs)
+    (λ c. search needs)
+    (λ c κs. search needs)
     leaf-requires
     returns
     returns-2)

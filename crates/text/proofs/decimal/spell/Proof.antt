@@ -18,30 +18,12 @@ abbrev μ-loop : tie.MeasureT-loop
 loop-holds : tie.Need-loop-holds Inv-loop μ-loop
 loop-holds c = (search needs, (refl, rw (drop-of-length-le (c .args .digits .now) {i = 20} (search needs))))
 
-sub-i : tie.Need-sub-i Inv-loop μ-loop
-sub-i c = search needs
-
-cast-digits : tie.Need-cast-digits Inv-loop μ-loop
-cast-digits c = search needs
-
-add-digits : tie.Need-add-digits Inv-loop μ-loop
-add-digits c = search needs
-
-slice-write-digits : tie.Need-slice-write-digits Inv-loop μ-loop
-slice-write-digits c = search needs
-
-same-length : tie.Need-same-length Inv-loop μ-loop
-same-length c = search needs
-
 returns : tie.Need-returns Inv-loop μ-loop
 returns c =
     let l = c .before .before .loop in (
       search needs,
       digits-done (l .digits) (l .left) (l .i) (search needs) (search needs) (c .if1 .taken) ∙ l .inv .1 .1,
     )
-
-loop-less : tie.Need-loop-less Inv-loop μ-loop
-loop-less c = search needs
 
 loop-again : tie.Need-loop-again Inv-loop μ-loop
 loop-again c =
@@ -52,9 +34,6 @@ loop-again c =
         digits-on (l .digits) (l .left) (l .i) (search needs) (search needs) (c .if1 .left) ∙ l .inv .1 .1,
       ),
     )
-
-same-length-2 : tie.Need-same-length-2 Inv-loop μ-loop
-same-length-2 c = search needs
 
 returns-2 : tie.Need-returns-2 Inv-loop μ-loop
 returns-2 c =
@@ -68,13 +47,13 @@ spell-spec =
     Inv-loop
     μ-loop
     loop-holds
-    sub-i
-    cast-digits
-    add-digits
-    slice-write-digits
-    same-length
+    (λ c. search needs)
+    (λ c. search needs)
+    (λ c. search needs)
+    (λ c. search needs)
+    (λ c. search needs)
     returns
-    loop-less
+    (λ c. search needs)
     loop-again
-    same-length-2
+    (λ c. search needs)
     returns-2)

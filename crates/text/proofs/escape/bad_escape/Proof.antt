@@ -21,18 +21,6 @@ Inv-loop q t i₀ i = (i ≤ length t) × (endsOutside q outside (drop i t) ≡ 
 abbrev μ-loop : tie.MeasureT-loop
 μ-loop q t i₀ i = length t - i
 
-loop-holds : tie.Need-loop-holds Inv-loop μ-loop
-loop-holds c = search needs
-
-shared-slice-read-if1 : tie.Need-shared-slice-read-if1 Inv-loop μ-loop
-shared-slice-read-if1 c = search needs
-
-add-is-escape : tie.Need-add-is-escape Inv-loop μ-loop
-add-is-escape c = search needs
-
-is-escape-requires : tie.Need-is-escape-requires Inv-loop μ-loop
-is-escape-requires c κs = search needs
-
 returns : tie.Need-returns Inv-loop μ-loop
 returns c =
     let at = c .before .before .before .before .before .before in
@@ -65,12 +53,6 @@ loop-again c =
     let g = goes c in
     (g .within, sym (g .ends) ∙ c .before .before .before .before .before .before .loop .inv .1)
 
-add-i-2 : tie.Need-add-i-2 Inv-loop μ-loop
-add-i-2 c = search needs
-
-loop-less-2 : tie.Need-loop-less-2 Inv-loop μ-loop
-loop-less-2 c = search needs
-
 loop-again-2 : tie.Need-loop-again-2 Inv-loop μ-loop
 loop-again-2 c =
     let at = c .before .before .before .before in
@@ -90,15 +72,15 @@ bad-escape-spec =
     (tie.spec
     Inv-loop
     μ-loop
-    loop-holds
-    shared-slice-read-if1
-    add-is-escape
-    is-escape-requires
+    (λ c. search needs)
+    (λ c. search needs)
+    (λ c. search needs)
+    (λ c κs. search needs)
     returns
     add-i
     loop-less
     loop-again
-    add-i-2
-    loop-less-2
+    (λ c. search needs)
+    (λ c. search needs)
     loop-again-2
     returns-2)

@@ -5,12 +5,6 @@ use Rattle.text.proofs.Escapes.{resolves-bad, resolves-full, resolves-g
 use Rattle.text.proofs.escape.resolve.Statement.{statement}
 use Rattle.text.proofs.escape.resolve.Tie as tie
 
-usual-marks-requires : tie.Need-usual-marks-requires
-usual-marks-requires c κs = search needs
-
-bad-escape-requires : tie.Need-bad-escape-requires
-bad-escape-requires c κs = search needs
-
 returns : tie.Need-returns
 returns c =
     let b = c .before .bad-escape in
@@ -36,9 +30,6 @@ write-resolved-requires c κs =
     let n = c .before .before .resolved-len in
     (sym (e .before .bad-escape .ensures) ∙ e .if1 .left, rw (n .ensures) at (c .before .if2 .left))
 
-same-length : tie.Need-same-length
-same-length c = search needs
-
 returns-3 : tie.Need-returns-3
 returns-3 c =
     let w = c .before .before in
@@ -53,11 +44,11 @@ pub resolve-spec : {M : Type 1} → statement M
 resolve-spec =
     tie.close
     (tie.spec
-    usual-marks-requires
-    bad-escape-requires
+    (λ c κs. search needs)
+    (λ c κs. search needs)
     returns
     resolved-len-requires
     returns-2
     write-resolved-requires
-    same-length
+    (λ c. search needs)
     returns-3)

@@ -23,12 +23,6 @@ loop-holds c =
     let a = c .args in
     counted-none (a .q) (a .t .now) (not-false (endsOutside (a .q) outside (a .t .now)) (c .pre))
 
-add-n : tie.Need-add-n Inv-loop μ-loop
-add-n c = search needs
-
-shared-slice-read-if1 : tie.Need-shared-slice-read-if1 Inv-loop μ-loop
-shared-slice-read-if1 c = search needs
-
 -- past an escape
 goes : (c : lts.Then1 reads.Pre reads.Post Inv-loop μ-loop)
     → let at = c .before .before .before .before in
@@ -51,12 +45,6 @@ loop-again c =
     let a = at .before .args in
     counted-more (a .q) (a .t .now) (at .loop .n) (at .loop .i) (at .loop .i + 3) _ (omega arith) (goes c) (at .loop .inv)
 
-add-i-2 : tie.Need-add-i-2 Inv-loop μ-loop
-add-i-2 c = search needs
-
-loop-less-2 : tie.Need-loop-less-2 Inv-loop μ-loop
-loop-less-2 c = search needs
-
 loop-again-2 : tie.Need-loop-again-2 Inv-loop μ-loop
 loop-again-2 c =
     let at = c .before .before .before .before in
@@ -77,12 +65,12 @@ resolved-len-spec =
     Inv-loop
     μ-loop
     loop-holds
-    add-n
-    shared-slice-read-if1
+    (λ c. search needs)
+    (λ c. search needs)
     add-i
     loop-less
     loop-again
-    add-i-2
-    loop-less-2
+    (λ c. search needs)
+    (λ c. search needs)
     loop-again-2
     returns)

@@ -25,9 +25,6 @@ loop-holds c =
     let a = s .args in
     filled-first (a .q) (a .t .now) (a .buffer .now) (not-false (endsOutside (a .q) outside (a .t .now)) (s .pre .0)) (s .pre .1)
 
-shared-slice-read-b : tie.Need-shared-slice-read-b Inv-loop μ-loop
-shared-slice-read-b c = search needs
-
 -- past an escape
 goes : (c : lts.Then1 (meant-reads.Asked, meant-reads.Learnt) reads.Pre reads.Post Inv-loop μ-loop)
     → let at = c .before .before .before .before in
@@ -38,14 +35,8 @@ goes c =
     let a = at .before .before .before .args in
     goes-good (a .q) (a .t .now) (at .loop .i) (search needs) (c .if1 .taken) (at .loop .inv .good)
 
-add-meant : tie.Need-add-meant Inv-loop μ-loop
-add-meant c = search needs
-
 shared-slice-read-meant : tie.Need-shared-slice-read-meant Inv-loop μ-loop
 shared-slice-read-meant c = let g = goes (c .before) in omega arith
-
-meant-requires : tie.Need-meant-requires Inv-loop μ-loop
-meant-requires c κs = search needs
 
 slice-write-buffer : tie.Need-slice-write-buffer Inv-loop μ-loop
 slice-write-buffer c =
@@ -84,19 +75,10 @@ slice-write-buffer-2 c =
 add-n-2 : tie.Need-add-n-2 Inv-loop μ-loop
 add-n-2 c = let r = slice-write-buffer-2 c in omega arith
 
-add-i-2 : tie.Need-add-i-2 Inv-loop μ-loop
-add-i-2 c = search needs
-
-loop-less-2 : tie.Need-loop-less-2 Inv-loop μ-loop
-loop-less-2 c = search needs
-
 loop-again-2 : tie.Need-loop-again-2 Inv-loop μ-loop
 loop-again-2 c =
     let l = c .before .before .before .before .loop in
     filled-more _ _ _ (l .buffer) (l .n) (l .i) (l .inv) _ _ (goes-2 c)
-
-same-length : tie.Need-same-length Inv-loop μ-loop
-same-length c = search needs
 
 returns : tie.Need-returns Inv-loop μ-loop
 returns c =
@@ -110,10 +92,10 @@ write-resolved-spec =
     Inv-loop
     μ-loop
     loop-holds
-    shared-slice-read-b
-    add-meant
+    (λ c. search needs)
+    (λ c. search needs)
     shared-slice-read-meant
-    meant-requires
+    (λ c κs. search needs)
     slice-write-buffer
     add-n
     add-i
@@ -121,8 +103,8 @@ write-resolved-spec =
     loop-again
     slice-write-buffer-2
     add-n-2
-    add-i-2
-    loop-less-2
+    (λ c. search needs)
+    (λ c. search needs)
     loop-again-2
-    same-length
+    (λ c. search needs)
     returns)

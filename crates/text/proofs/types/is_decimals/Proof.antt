@@ -19,25 +19,10 @@ counted t u n p e h = rw (h, p, ← e, digits-some, digits-all)
 returns : tie.Need-returns
 returns c = ap isDecimals (no-bytes (c .before .before .args .t .now) (c .if1 .taken))
 
-shared-slice-read-if2 : tie.Need-shared-slice-read-if2
-shared-slice-read-if2 c = search needs
-
 returns-2 : tie.Need-returns-2
 returns-2 c =
     let t = c .before .before .before .before .args .t .now in
     let e = begins-at point t (c .before .before .if1 .left) ∙ ne-eqb (getD t 0 0) (byte ".") (c .if2 .taken) in rw e
-
-sub-after : tie.Need-sub-after
-sub-after c = search needs
-
-part-after-start : tie.Need-part-after-start
-part-after-start c = search needs
-
-part-after-end : tie.Need-part-after-end
-part-after-end c = search needs
-
-digits-len-requires : tie.Need-digits-len-requires
-digits-len-requires c κs = search needs
 
 returns-3 : tie.Need-returns-3
 returns-3 c =
@@ -51,10 +36,10 @@ is-decimals-spec =
     tie.close
     (tie.spec
     returns
-    shared-slice-read-if2
+    (λ c. search needs)
     returns-2
-    sub-after
-    part-after-start
-    part-after-end
-    digits-len-requires
+    (λ c. search needs)
+    (λ c. search needs)
+    (λ c. search needs)
+    (λ c κs. search needs)
     returns-3)

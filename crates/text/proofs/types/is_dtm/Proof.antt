@@ -7,39 +7,15 @@ use Rattle.text.proofs.TypeLaws.{part-every, part-of-digits, part-after
 use Rattle.text.proofs.types.is_dtm.Statement.{statement}
 use Rattle.text.proofs.types.is_dtm.Tie as tie
 
-digits-len-requires : tie.Need-digits-len-requires
-digits-len-requires c κs = search needs
-
 returns : tie.Need-returns
 returns c =
     let t = c .before .before .before .args .t .now in
     let e = lt-leb 4 (length (digits t)) (search needs) in rw e
 
-slice-aggregate-is-twos : tie.Need-slice-aggregate-is-twos
-slice-aggregate-is-twos c = search needs
-
-part-is-twos-start : tie.Need-part-is-twos-start
-part-is-twos-start c = search needs
-
-part-is-twos-end : tie.Need-part-is-twos-end
-part-is-twos-end c = search needs
-
 is-twos-requires : tie.Need-is-twos-requires
 is-twos-requires c κs =
     let known = c .before .before .before in
     part-every 4 (known .before .before .args .t .now) (known .digits-len .result) (known .digits-len .ensures .0)
-
-sub-is-ending : tie.Need-sub-is-ending
-sub-is-ending c = search needs
-
-part-is-ending-start : tie.Need-part-is-ending-start
-part-is-ending-start c = search needs
-
-part-is-ending-end : tie.Need-part-is-ending-end
-part-is-ending-end c = search needs
-
-is-ending-requires : tie.Need-is-ending-requires
-is-ending-requires c κs = search needs
 
 returns-2 : tie.Need-returns-2
 unfolding rangesOf
@@ -61,14 +37,14 @@ pub is-dtm-spec : {M : Type 1} → statement M
 is-dtm-spec =
     tie.close
     (tie.spec
-    digits-len-requires
+    (λ c κs. search needs)
     returns
-    slice-aggregate-is-twos
-    part-is-twos-start
-    part-is-twos-end
+    (λ c. search needs)
+    (λ c. search needs)
+    (λ c. search needs)
     is-twos-requires
-    sub-is-ending
-    part-is-ending-start
-    part-is-ending-end
-    is-ending-requires
+    (λ c. search needs)
+    (λ c. search needs)
+    (λ c. search needs)
+    (λ c κs. search needs)
     returns-2)

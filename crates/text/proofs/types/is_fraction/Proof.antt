@@ -19,25 +19,10 @@ counted t u n b p e h w = rw (p, ← e, ← h, w)
 returns : tie.Need-returns
 returns c = ap isFraction (no-bytes (c .before .before .args .t .now) (c .if1 .taken))
 
-shared-slice-read-if2 : tie.Need-shared-slice-read-if2
-shared-slice-read-if2 c = search needs
-
 returns-2 : tie.Need-returns-2
 returns-2 c =
     let t = c .before .before .before .before .args .t .now in
     let e = begins-at point t (c .before .before .if1 .left) ∙ ne-eqb (getD t 0 0) (byte ".") (c .if2 .taken) in rw e
-
-sub-after : tie.Need-sub-after
-sub-after c = search needs
-
-part-after-start : tie.Need-part-after-start
-part-after-start c = search needs
-
-part-after-end : tie.Need-part-after-end
-part-after-end c = search needs
-
-digits-len-requires : tie.Need-digits-len-requires
-digits-len-requires c κs = search needs
 
 returns-3 : tie.Need-returns-3
 returns-3 c =
@@ -45,18 +30,6 @@ returns-3 c =
     let t = at .before .before .before .before .args .t .now in
     let p = begins-at point t (at .before .before .if1 .left) ∙ eq-eqb (getD t 0 0) (byte ".") (at .if2 .left) in
     sym (counted t _ (c .before .digits-len .result) false p (part-rest 1 t) (c .before .digits-len .ensures .0) (not-true _ (c .if3 .taken)))
-
-sub-is-zone : tie.Need-sub-is-zone
-sub-is-zone c = search needs
-
-part-is-zone-start : tie.Need-part-is-zone-start
-part-is-zone-start c = search needs
-
-part-is-zone-end : tie.Need-part-is-zone-end
-part-is-zone-end c = search needs
-
-is-zone-requires : tie.Need-is-zone-requires
-is-zone-requires c κs = search needs
 
 returns-4 : tie.Need-returns-4
 returns-4 c =
@@ -73,15 +46,15 @@ is-fraction-spec =
     tie.close
     (tie.spec
     returns
-    shared-slice-read-if2
+    (λ c. search needs)
     returns-2
-    sub-after
-    part-after-start
-    part-after-end
-    digits-len-requires
+    (λ c. search needs)
+    (λ c. search needs)
+    (λ c. search needs)
+    (λ c κs. search needs)
     returns-3
-    sub-is-zone
-    part-is-zone-start
-    part-is-zone-end
-    is-zone-requires
+    (λ c. search needs)
+    (λ c. search needs)
+    (λ c. search needs)
+    (λ c κs. search needs)
     returns-4)

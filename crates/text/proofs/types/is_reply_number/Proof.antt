@@ -32,21 +32,6 @@ returns c =
     let t = c .before .before .args .t .now in
     sym (tested t false (not-true _ (c .if1 .taken)))
 
-loop-holds : tie.Need-loop-holds Inv-loop μ-loop
-loop-holds c = search needs
-
-shared-slice-read-is-capital : tie.Need-shared-slice-read-is-capital Inv-loop μ-loop
-shared-slice-read-is-capital c = search needs
-
-is-capital-requires : tie.Need-is-capital-requires Inv-loop μ-loop
-is-capital-requires c κs = search needs
-
-shared-slice-read-is-digit : tie.Need-shared-slice-read-is-digit Inv-loop μ-loop
-shared-slice-read-is-digit c = search needs
-
-is-digit-requires : tie.Need-is-digit-requires Inv-loop μ-loop
-is-digit-requires c κs = search needs
-
 returns-2 : tie.Need-returns-2 Inv-loop μ-loop
 returns-2 c =
     let at = c .before .before .before .before .before .before in
@@ -55,12 +40,6 @@ returns-2 c =
     sym (every-step allowed t (at .loop .i) false (search needs) (sym e ∙ not-true _ (c .if2 .taken)))
     ∙ at .loop .inv .1
     ∙ sym (tested t true (not-false _ (at .before .if1 .left)))
-
-add-i : tie.Need-add-i Inv-loop μ-loop
-add-i c = search needs
-
-loop-less : tie.Need-loop-less Inv-loop μ-loop
-loop-less c = search needs
 
 loop-again : tie.Need-loop-again Inv-loop μ-loop
 loop-again c =
@@ -86,13 +65,13 @@ is-reply-number-spec =
     Inv-loop
     μ-loop
     returns
-    loop-holds
-    shared-slice-read-is-capital
-    is-capital-requires
-    shared-slice-read-is-digit
-    is-digit-requires
+    (λ c. search needs)
+    (λ c. search needs)
+    (λ c κs. search needs)
+    (λ c. search needs)
+    (λ c κs. search needs)
     returns-2
-    add-i
-    loop-less
+    (λ c. search needs)
+    (λ c. search needs)
     loop-again
     returns-3)

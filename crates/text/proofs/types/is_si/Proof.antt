@@ -7,13 +7,10 @@ use Rattle.text.proofs.TypeLaws.{digits-all}
 use Rattle.text.proofs.types.is_si.Statement.{statement}
 use Rattle.text.proofs.types.is_si.Tie as tie
 
-digits-len-requires : tie.Need-digits-len-requires
-digits-len-requires c κs = search needs
-
 returns : tie.Need-returns
 returns c =
     let t = c .before .before .args .t .now in
     ap (λ n. eqb n (length t)) (c .digits-len .ensures .0) ∙ digits-all t
 
 pub is-si-spec : {M : Type 1} → statement M
-is-si-spec = tie.close (tie.spec digits-len-requires returns)
+is-si-spec = tie.close (tie.spec (λ c κs. search needs) returns)

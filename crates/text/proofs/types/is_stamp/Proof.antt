@@ -10,12 +10,6 @@ returns c =
     let t = c .before .before .args .t .now in
     let e = ne-eqb (length t) 14 (c .if1 .taken) in rw e
 
-is-si-requires : tie.Need-is-si-requires
-is-si-requires c κs = search needs
-
-is-dtm-requires : tie.Need-is-dtm-requires
-is-dtm-requires c κs = search needs
-
 returns-2 : tie.Need-returns-2
 returns-2 c =
     let at = c .before .before in
@@ -23,4 +17,4 @@ returns-2 c =
     let e = eq-eqb (length t) 14 (at .if1 .left) in rw (e, c .before .is-si .ensures, c .is-dtm .ensures)
 
 pub is-stamp-spec : {M : Type 1} → statement M
-is-stamp-spec = tie.close (tie.spec returns is-si-requires is-dtm-requires returns-2)
+is-stamp-spec = tie.close (tie.spec returns (λ c κs. search needs) (λ c κs. search needs) returns-2)

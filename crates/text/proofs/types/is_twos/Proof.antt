@@ -22,29 +22,17 @@ digit-at t i e h = digit-range (getD t i 0) (every-at digit t i 0 h e)
 abbrev μ-loop : tie.MeasureT-loop
 μ-loop ranges t i₀ i = length t - i
 
-loop-holds : tie.Need-loop-holds Inv-loop μ-loop
-loop-holds c = search needs
-
-sub-if1 : tie.Need-sub-if1 Inv-loop μ-loop
-sub-if1 c = search needs
-
 returns : tie.Need-returns Inv-loop μ-loop
 returns c =
     let at = c .before .before in
     let a = at .before .args in
     sym (twos-no-range (a .ranges .now) (a .t .now) (at .loop .i) (c .if1 .taken) (search needs)) ∙ at .loop .inv .1
 
-sub-if2 : tie.Need-sub-if2 Inv-loop μ-loop
-sub-if2 c = search needs
-
 returns-2 : tie.Need-returns-2 Inv-loop μ-loop
 returns-2 c =
     let at = c .before .before .before in
     let a = at .before .args in
     sym (twos-no-digit (a .ranges .now) (a .t .now) (at .loop .i) (search needs) (c .if2 .taken)) ∙ at .loop .inv .1
-
-shared-slice-read-n : tie.Need-shared-slice-read-n Inv-loop μ-loop
-shared-slice-read-n c = search needs
 
 sub-n : tie.Need-sub-n Inv-loop μ-loop
 sub-n c =
@@ -58,12 +46,6 @@ mul-n c =
     let t = at .before .args .t .now in
     omega (arith, digit-at t (at .loop .i) (at .before .pre) (search needs) .1)
 
-add-n : tie.Need-add-n Inv-loop μ-loop
-add-n c = search needs
-
-shared-slice-read-n-2 : tie.Need-shared-slice-read-n-2 Inv-loop μ-loop
-shared-slice-read-n-2 c = search needs
-
 sub-n-2 : tie.Need-sub-n-2 Inv-loop μ-loop
 sub-n-2 c =
     let at = c .before .before .before .before .before in
@@ -76,26 +58,11 @@ add-n-2 c =
     let t = at .before .args .t .now in
     omega (arith, digit-at t (at .loop .i) (at .before .pre) (search needs), digit-at t (at .loop .i + 1) (at .before .pre) (search needs))
 
-shared-slice-read-if3 : tie.Need-shared-slice-read-if3 Inv-loop μ-loop
-shared-slice-read-if3 c = search needs
-
-add-if3 : tie.Need-add-if3 Inv-loop μ-loop
-add-if3 c = search needs
-
-shared-slice-read-if3-2 : tie.Need-shared-slice-read-if3-2 Inv-loop μ-loop
-shared-slice-read-if3-2 c = search needs
-
 returns-3 : tie.Need-returns-3 Inv-loop μ-loop
 returns-3 c =
     let at = c .before .before .before .before .before .before .before .before in
     let a = at .before .args in
     sym (twos-step (a .ranges .now) (a .t .now) (at .loop .i) false (search needs) (search needs) (not-true _ (c .if3 .taken))) ∙ at .loop .inv .1
-
-add-i : tie.Need-add-i Inv-loop μ-loop
-add-i c = search needs
-
-loop-less : tie.Need-loop-less Inv-loop μ-loop
-loop-less c = search needs
 
 loop-again : tie.Need-loop-again Inv-loop μ-loop
 loop-again c =
@@ -116,23 +83,23 @@ is-twos-spec =
     (tie.spec
     Inv-loop
     μ-loop
-    loop-holds
-    sub-if1
+    (λ c. search needs)
+    (λ c. search needs)
     returns
-    sub-if2
+    (λ c. search needs)
     returns-2
-    shared-slice-read-n
+    (λ c. search needs)
     sub-n
     mul-n
-    add-n
-    shared-slice-read-n-2
+    (λ c. search needs)
+    (λ c. search needs)
     sub-n-2
     add-n-2
-    shared-slice-read-if3
-    add-if3
-    shared-slice-read-if3-2
+    (λ c. search needs)
+    (λ c. search needs)
+    (λ c. search needs)
     returns-3
-    add-i
-    loop-less
+    (λ c. search needs)
+    (λ c. search needs)
     loop-again
     returns-4)

@@ -8,25 +8,10 @@ use Rattle.text.proofs.TypeLaws.{digits-some, digits-rest, part-after-d
 use Rattle.text.proofs.types.is_unsigned.Statement.{statement}
 use Rattle.text.proofs.types.is_unsigned.Tie as tie
 
-digits-len-requires : tie.Need-digits-len-requires
-digits-len-requires c κs = search needs
-
 returns : tie.Need-returns
 returns c =
     let t = c .before .before .before .args .t .now in
     let e = sym (digits-some t) ∙ le-ltb 0 (length (digits t)) (search needs) in rw e
-
-sub-is-decimals : tie.Need-sub-is-decimals
-sub-is-decimals c = search needs
-
-part-is-decimals-start : tie.Need-part-is-decimals-start
-part-is-decimals-start c = search needs
-
-part-is-decimals-end : tie.Need-part-is-decimals-end
-part-is-decimals-end c = search needs
-
-is-decimals-requires : tie.Need-is-decimals-requires
-is-decimals-requires c κs = search needs
 
 returns-2 : tie.Need-returns-2
 returns-2 c =
@@ -40,10 +25,10 @@ pub is-unsigned-spec : {M : Type 1} → statement M
 is-unsigned-spec =
     tie.close
     (tie.spec
-    digits-len-requires
+    (λ c κs. search needs)
     returns
-    sub-is-decimals
-    part-is-decimals-start
-    part-is-decimals-end
-    is-decimals-requires
+    (λ c. search needs)
+    (λ c. search needs)
+    (λ c. search needs)
+    (λ c κs. search needs)
     returns-2)

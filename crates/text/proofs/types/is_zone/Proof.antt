@@ -26,28 +26,10 @@ digits-tested t u s b h e f p d = tested t s true h e f ∙ rw (← p, d)
 returns : tie.Need-returns
 returns c = ap isZone (no-bytes (c .before .before .args .t .now) (c .if1 .taken))
 
-shared-slice-read-is-sign : tie.Need-shared-slice-read-is-sign
-shared-slice-read-is-sign c = search needs
-
-is-sign-requires : tie.Need-is-sign-requires
-is-sign-requires c κs = search needs
-
 returns-2 : tie.Need-returns-2
 returns-2 c =
     let at = c .before .before .before in
     sym (tested (at .before .before .args .t .now) _ false (at .if1 .left) (c .before .is-sign .ensures) (not-true _ (c .if2 .taken)))
-
-sub-after : tie.Need-sub-after
-sub-after c = search needs
-
-part-after-start : tie.Need-part-after-start
-part-after-start c = search needs
-
-part-after-end : tie.Need-part-after-end
-part-after-end c = search needs
-
-is-si-requires : tie.Need-is-si-requires
-is-si-requires c κs = search needs
 
 returns-3 : tie.Need-returns-3
 returns-3 c =
@@ -65,9 +47,6 @@ returns-3 c =
     (not-false _ (known .if2 .left))
     (part-rest 1 t)
     (sym (c .before .is-si .ensures) ∙ not-true _ (c .if3 .taken)))
-
-slice-aggregate-is-twos : tie.Need-slice-aggregate-is-twos
-slice-aggregate-is-twos c = search needs
 
 is-twos-requires : tie.Need-is-twos-requires
 is-twos-requires c κs = sym (c .before .before .is-si .ensures) ∙ not-false _ (c .before .if3 .left)
@@ -97,14 +76,14 @@ is-zone-spec =
     tie.close
     (tie.spec
     returns
-    shared-slice-read-is-sign
-    is-sign-requires
+    (λ c. search needs)
+    (λ c κs. search needs)
     returns-2
-    sub-after
-    part-after-start
-    part-after-end
-    is-si-requires
+    (λ c. search needs)
+    (λ c. search needs)
+    (λ c. search needs)
+    (λ c κs. search needs)
     returns-3
-    slice-aggregate-is-twos
+    (λ c. search needs)
     is-twos-requires
     returns-4)
