@@ -1,6 +1,6 @@
 -- The eight tests in their order: what each way out of the checks may answer.
-use mathlib.Core.Path.{_≡_, refl, sym, _∙_}
-use Prim.Native.Nat.{ℕ, suc, _+_, _-_, _≤_, _<_}
+use mathlib.Core.Path.{_≡_, refl, _∙_}
+use Prim.Native.Nat.{suc, _-_, _≤_, _<_}
 use native.Mathlib.Omega.{arith}
 use mathlib.Core.Bool.{Bool, true, false, not}
 use mathlib.Core.List.{[], _∷_}
@@ -8,7 +8,7 @@ use lib.ListN.{length, getD, take}
 use lib.Dec.{eqb}
 use borrow.Author.Tests.{lt-ltb, le-ltb, eq-eqb, ne-eqb, not-true, not-false}
 use Rattle.text.specs.Bytes.{Text, cr, empty, every, same}
-use Rattle.text.specs.Answer.{Answer, refused, given, first}
+use Rattle.text.specs.Answer.{Answer, refused, first}
 use Rattle.text.specs.Marks.{marksOf}
 use Rattle.text.specs.declared.refusal.Refusal.the-variants.{Empty, TooLong, BadByte, NoHeader, NoEnd}
 use Rattle.frame.specs.Frame.{allowed, header, endsWithCR, segmentTests, frameTests}

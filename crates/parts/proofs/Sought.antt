@@ -2,9 +2,8 @@
 use mathlib.Core.Path.{_≡_, refl, sym, ap, _∙_}
 use Prim.Native.Nat.{ℕ, zero, suc, _+_, _-_, _≤_, _<_}
 use native.Mathlib.Omega.{arith}
-use mathlib.Core.List.{List, [], _∷_}
-use lib.ListN.{length, getD, take, drop, length-drop}
-use lib.Seq.{length-take-le}
+use mathlib.Core.List.{List, []}
+use lib.ListN.{length, getD, drop}
 use Rattle.text.specs.Bytes.{Text}
 use Rattle.parts.specs.declared.Span.{Span}
 use Rattle.parts.specs.Split.{split, piece, before, start, reach}

@@ -6,21 +6,21 @@ use native.Mathlib.Omega.{arith}
 use mathlib.Core.Bool.{Bool, true, false, not, _&&_}
 use mathlib.Core.List.{List, [], _∷_}
 use lib.ListN.{length, take, drop, length-take, length-drop, drop-of-length-le}
-use lib.Seq.{drop-drop, drop-nil, take-nil}
+use lib.Seq.{drop-drop, take-nil}
 use lib.Dec.{eqb, leb}
 use borrow.Author.Tests as tests
 use borrow.Author.Tests.{lt-leb, le-leb, eqb-true}
-use Rattle.text.specs.Bytes.{Text, pick, empty}
+use Rattle.text.specs.Bytes.{Text, pick}
 use Rattle.text.specs.Answer.{Answer, given}
 use Rattle.text.specs.declared.marks.Marks.{Marks}
 use Rattle.text.proofs.Tests.{not-true}
 use Rattle.parts.specs.declared.Span.{Span}
 use Rattle.parts.specs.declared.Numbers.{Numbers}
 use Rattle.parts.specs.Split.{split, piece, start}
-use Rattle.parts.specs.Descent.{Step, cut, part, partStart, inField}
+use Rattle.parts.specs.Descent.{Step, part, partStart, inField}
 use Rattle.parts.specs.Span.{span, within, stepsFrom}
 use Rattle.parts.proofs.Descent.{within-length, reached}
-use Rattle.frame.specs.Segments.{isHeader, field, fieldStart, unsplit}
+use Rattle.frame.specs.Segments.{isHeader, field, fieldStart}
 use Rattle.reader.specs.Place.{leafAt, leafStart}
 use Rattle.reader.specs.LookUp.{Found, Empty, Text-from-to, shown}
 use Rattle.reader.specs.Leaf.{leafFound, leafBehind}

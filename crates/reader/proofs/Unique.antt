@@ -1,10 +1,9 @@
 -- What a call promises leaves one answer.
 use Prim.Native.Nat.{ℕ}
 use native.Mathlib.Omega.{arith}
-use mathlib.Core.Path.{_≡_, sym, ap, _∙_}
+use mathlib.Core.Path.{_≡_, sym, _∙_}
 use denote.Ref.{RefT}
 use Rattle.text.specs.Bytes.{Text}
-use Rattle.parts.specs.Span.{within}
 use Rattle.reader.specs.declared.Place.{Place}
 use Rattle.reader.specs.declared.Found.{Found}
 use Rattle.reader.specs.declared.Found.the-variants as found

@@ -1,13 +1,11 @@
 -- `piece`: the piece sought is told from where the loop stands.
 use borrow.Author.Needs.{needs}
-use Prim.Native.Nat.{_+_, _-_, _≤_}
-use mathlib.Core.Path.{_≡_, refl}
-use native.Mathlib.Omega.{arith}
+use Prim.Native.Nat.{_+_, _≤_}
+use mathlib.Core.Path.{_≡_}
 use lib.ListN.{length, drop}
 use Rattle.parts.specs.Split.{split, start, reach}
 use Rattle.parts.specs.Split as split
 use Rattle.parts.specs.Span.{span}
-use Rattle.parts.proofs.Reach.{end-inside}
 use Rattle.parts.proofs.Sought.{Sought, sought-first, sought-on, sought-here, sought-none}
 use Rattle.parts.proofs.piece.Statement.{statement}
 use Rattle.parts.proofs.piece.Tie as tie

@@ -1,10 +1,10 @@
 -- `sixteen_have`: while no separator was seen, the end is so much further on.
 use borrow.Author.Needs.{needs}
 use Prim.Native.Nat.{_+_, _-_, _≤_}
-use mathlib.Core.Path.{_≡_, refl}
+use mathlib.Core.Path.{_≡_}
 use mathlib.Core.Bool.{false}
 use native.Mathlib.Omega.{arith}
-use lib.ListN.{length, drop}
+use lib.ListN.{drop}
 use Rattle.parts.specs.Split.{reach}
 use Rattle.parts.proofs.Reach.{none-seen}
 use Rattle.parts.proofs.sixteen_have.Statement.{statement}

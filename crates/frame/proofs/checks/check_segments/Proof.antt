@@ -6,8 +6,6 @@ use mathlib.Core.Path.{_≡_}
 use native.Mathlib.Omega.{arith}
 use lib.ListN.{length}
 use Rattle.text.specs.Marks.{marksOf}
-use Rattle.parts.proofs.Reach.{end-inside}
-use Rattle.text.specs.Bytes.{cr}
 use Rattle.frame.proofs.Walk.{Walked, walked-first, walked-bad, walked-on, walked-second, walked-many, walked-good}
 use Rattle.frame.proofs.checks.check_segments.Statement.{statement}
 use Rattle.frame.proofs.checks.check_segments.Tie as tie

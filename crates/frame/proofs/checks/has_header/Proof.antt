@@ -1,12 +1,9 @@
 use Rattle.text.specs.Marks.{marksOf}
 use Rattle.frame.proofs.Names.{header-short}
-use mathlib.Core.Path.{sym, _∙_}
+use mathlib.Core.Path.{sym}
 use borrow.Author.Needs.{needs}
 use Rattle.frame.proofs.checks.has_header.Statement.{statement}
 use Rattle.frame.proofs.checks.has_header.Tie as tie
-use Rattle.frame.proofs.checks.has_header.Reads as reads
-use Rattle.frame.proofs.checks.has_header.Lts as lts
-use Rattle.text.proofs.is_same.Reads as is-same-reads
 
 -- src/checks.rt:45:9
 returns : tie.Need-returns

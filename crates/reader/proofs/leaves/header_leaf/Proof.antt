@@ -1,8 +1,6 @@
 -- `header_leaf`: the header's fields counted their own way.
 use Rattle.reader.specs.Told.{foundOf}
 use mathlib.Core.Path.{ap, _∙_}
-use Prim.Native.Nat.{_+_}
-use native.Mathlib.Omega.{arith}
 use lib.ListN.{take, drop}
 use Rattle.text.specs.Answer.{given}
 use Rattle.parts.specs.Span.{within}
