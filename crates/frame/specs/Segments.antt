@@ -1,10 +1,10 @@
 -- The segments of a message, their names and their fields.
 use Prim.Native.Nat.{ℕ, zero, suc, _+_}
-use mathlib.Core.Bool.{Bool, false, _&&_, _||_}
+use mathlib.Core.Bool.{Bool, false, _&&_}
 use mathlib.Core.List.{List, [], _∷_}
 use lib.ListN.{take, drop}
 use lib.Dec.{leb}
-use Rattle.text.specs.Bytes.{Text, pick, bytes, cr, capital, digit, keep, same}
+use Rattle.text.specs.Bytes.{Text, pick, bytes, cr, capital, capitalOrDigit, keep, same}
 use Rattle.text.specs.declared.marks.Marks.{Marks}
 use Rattle.parts.specs.Split.{split, piece, start, before, ended}
 
@@ -14,9 +14,6 @@ segments m = ended cr m
 
 abbrev pub name : Text → Text
 name s = take 3 s
-
-abbrev pub capitalOrDigit : ℕ → Bool
-capitalOrDigit b = capital b || digit b
 
 -- a name: a capital, then two capitals or digits
 abbrev pub isName : Text → Bool

@@ -8,18 +8,12 @@ ghost use Rattle.frame.specs.Told.{standing};
 use parts::far_end;
 use text::Marks;
 use text::is_capital;
-use text::is_digit;
+use text::is_capital_or_digit;
 
 // Where an occurrence of a name stands, its CR not counted.
 pub enum Standing {
     Missing,
     Segment { start: usize, end: usize },
-}
-
-fn is_capital_or_digit(b: u8) -> bool
-    ensures { λ r. ⌜ r ≡ Rattle.frame.specs.Segments.capitalOrDigit b ⌝ }
-{
-    is_capital(b) | is_digit(b)
 }
 
 pub fn is_name(a: u8, b: u8, c: u8) -> bool
@@ -56,7 +50,7 @@ pub fn is_segment(q: Marks, s: &[u8]) -> bool
     is_name(s[0], s[1], s[2]) & (s[3] == q.field)
 }
 
-// Standing `number` of a name, from 1: one walk, from segment to segment.
+// Occurrence `number` of a name, from 1: one walk, from segment to segment.
 // Inner: the callers hold that the number is at least 1.
 pub fn occurrence(m: &[u8], a: u8, b: u8, c: u8, number: u64) -> Standing
     requires { ⌜ 1 ≤ number ⌝ }

@@ -1,3 +1,4 @@
 pub mod LookUp
 pub mod Leaf
+pub mod Part
 pub mod Unique

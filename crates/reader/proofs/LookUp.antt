@@ -59,7 +59,7 @@ text-stands m p =
     (leaf-stands q s (p .field) (p .repetition) (p .component) (p .subcomponent))
 
 -- the text that an answer names lies in the message
-shown-step : (k a e : ℕ) (t : Text) → Text-from-to a e ≡ shown k t → (a ≡ k) × ((e ≡ k + length t) × (0 < length t))
+pub shown-step : (k a e : ℕ) (t : Text) → Text-from-to a e ≡ shown k t → (a ≡ k) × ((e ≡ k + length t) × (0 < length t))
 shown-step k a e [] h = absurd (let z : _≡_ {A = ℕ} 0 1 = cc in omega arith)
 shown-step k a e (b ∷ t) h = (cc, (cc, omega arith))
 

@@ -45,16 +45,16 @@ or-false true = refl
 or-false false = refl
 
 -- a test of every byte, a byte further and at the end
-pub every-on : (f : ℕ → Bool) (t : List ℕ) (i : ℕ) → i < length t → every f (drop i t) ≡ f (getD t i 0) && every f (drop (i + 1) t)
+pub every-step : (f : ℕ → Bool) (t : List ℕ) (i : ℕ) (b : Bool) → i < length t → f (getD t i 0) ≡ b → every f (drop i t) ≡ b && every f (drop (i + 1) t)
 unfolding every
-every-on f t i h = rw (add-one, drop-cons t i 0 h)
+every-step f t i b h e = rw (add-one, drop-cons t i 0 h, e)
 
 pub every-seen : (f : ℕ → Bool) (t : List ℕ) (i : ℕ) (ok r all : Bool) → i < length t → r ≡ f (getD t i 0)
     → ok && every f (drop i t) ≡ all → ok && r && every f (drop (i + 1) t) ≡ all
 every-seen f t i ok r all h e seen =
     rw e
     (and-assoc ok (f (getD t i 0)) (every f (drop (i + 1) t))
-    ∙ ap (λ (b : Bool). ok && b) (sym (every-on f t i h))
+    ∙ ap (λ (b : Bool). ok && b) (sym (every-step f t i (f (getD t i 0)) h refl))
     ∙ seen)
 
 pub every-end : (f : ℕ → Bool) (t : List ℕ) (i : ℕ) → length t ≤ i → every f (drop i t) ≡ true

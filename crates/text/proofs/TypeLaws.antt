@@ -174,13 +174,3 @@ module _ (ranges t : Text) (i : ℕ) where
 
   pub twos-end : length t ≤ i → twos (rangesOf (drop i ranges)) (drop i t) ≡ true
   twos-end h = rw (drop-of-length-le t h) (twos-none (rangesOf (drop i ranges)))
-
--- what is left of a test on each member
-module _ (p : ℕ → Bool) (t : Text) (i : ℕ) where
-  pub every-step : (b : Bool) → i < length t → p (getD t i 0) ≡ b → every p (drop i t) ≡ b && every p (drop (i + 1) t)
-  unfolding every
-  every-step b h e = rw (drop-cons t i 0 h, e, add-one i)
-
-  pub every-end : length t ≤ i → every p (drop i t) ≡ true
-  unfolding every
-  every-end h = rw (drop-of-length-le t h)

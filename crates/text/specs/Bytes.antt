@@ -33,6 +33,9 @@ capital b = leb (byte "A") b && leb b (byte "Z")
 abbrev pub digit : ℕ → Bool
 digit b = leb (byte "0") b && leb b (byte "9")
 
+abbrev pub capitalOrDigit : ℕ → Bool
+capitalOrDigit b = capital b || digit b
+
 abbrev pub printable : ℕ → Bool
 printable b = leb 0x20 b && leb b 0x7E
 

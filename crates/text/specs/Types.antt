@@ -4,7 +4,7 @@ use mathlib.Core.Bool.{Bool, true, false, _&&_, _||_}
 use mathlib.Core.List.{List, [], _∷_}
 use lib.ListN.{length, drop}
 use lib.Dec.{eqb, leb, ltb}
-use Rattle.text.specs.Bytes.{Text, pick, byte, capital, digit, empty, every}
+use Rattle.text.specs.Bytes.{Text, pick, byte, digit, capitalOrDigit, empty, every}
 
 -- a limit counts written bytes
 abbrev pub tooLong : ℕ → Text → Bool
@@ -107,7 +107,7 @@ isStamp t = eqb (length t) 14 && every digit t && isDTM t
 
 -- a reply number: 1 to 20 capitals or digits
 abbrev pub isReplyNumber : Text → Bool
-isReplyNumber t = isWithin (1 to 20) (length t) && every (λ b. capital b || digit b) t
+isReplyNumber t = isWithin (1 to 20) (length t) && every capitalOrDigit t
 
 -- ranges from a list of low, high, low, high
 unfoldable pub rangesOf : List ℕ → List Range

@@ -1,6 +1,6 @@
 // Classes of bytes, and equality of byte strings.
 ghost use mathlib.Core.Path.{_≡_};
-ghost use Rattle.text.specs.Bytes.{capital, digit, printable, same};
+ghost use Rattle.text.specs.Bytes.{capital, digit, capitalOrDigit, printable, same};
 
 pub fn is_capital(b: u8) -> bool
     ensures { λ r. ⌜ r ≡ capital b ⌝ }
@@ -12,6 +12,12 @@ pub fn is_digit(b: u8) -> bool
     ensures { λ r. ⌜ r ≡ digit b ⌝ }
 {
     (b'0' <= b) & (b <= b'9')
+}
+
+pub fn is_capital_or_digit(b: u8) -> bool
+    ensures { λ r. ⌜ r ≡ capitalOrDigit b ⌝ }
+{
+    is_capital(b) | is_digit(b)
 }
 
 pub fn is_printable(b: u8) -> bool

@@ -7,6 +7,7 @@ mod refusal;
 mod types;
 
 pub use bytes::is_capital;
+pub use bytes::is_capital_or_digit;
 pub use bytes::is_digit;
 pub use bytes::is_printable;
 pub use bytes::is_same;

@@ -5,7 +5,7 @@ ghost use Prim.Native.Nat.{_≤_};
 ghost use lib.ListN.{length};
 ghost use Rattle.text.specs.Bytes.{digit, every};
 ghost use Rattle.text.specs.Types.{digits, isDTM, isDecimals, isFraction, isNM, isReplyNumber, isSI, isStamp, isTM, isUnsigned, isZone, rangesOf, sign, twos};
-use crate::bytes::is_capital;
+use crate::bytes::is_capital_or_digit;
 use crate::bytes::is_digit;
 
 // Low and high of month, day, hour, minute and second; those of the clock are the last three.
@@ -175,7 +175,7 @@ pub fn is_reply_number(t: &[u8]) -> bool
     }
     let mut i = 0;
     while i < t.len() {
-        if !(is_capital(t[i]) | is_digit(t[i])) {
+        if !is_capital_or_digit(t[i]) {
             return false;
         }
         i += 1;

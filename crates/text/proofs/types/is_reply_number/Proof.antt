@@ -1,28 +1,22 @@
 -- `is_reply_number`: what is left of the text decides.
-use Prim.Native.Nat.{ℕ, _-_, _≤_}
+use Prim.Native.Nat.{_-_, _≤_}
 use mathlib.Core.Path.{_≡_, sym, ap, _∙_}
-use mathlib.Core.Bool.{Bool, true, false, _&&_, _||_}
+use mathlib.Core.Bool.{Bool, true, false, _&&_}
 use borrow.Author.Needs.{needs}
 use borrow.Author.Tests.{not-true, not-false}
 use lib.ListN.{length, drop}
-use Rattle.text.specs.Bytes.{Text, capital, digit, every}
+use Rattle.text.specs.Bytes.{Text, capitalOrDigit, every}
 use Rattle.text.specs.Types.{_to_, isWithin, isReplyNumber}
-use Rattle.text.proofs.TypeLaws.{every-step, every-end}
+use Rattle.text.proofs.Lists.{every-step, every-end}
 use Rattle.text.proofs.types.is_reply_number.Statement.{statement}
 use Rattle.text.proofs.types.is_reply_number.Tie as tie
 
-abbrev allowed : ℕ → Bool
-allowed b = capital b || digit b
-
 -- the length's test decides, or leaves the rest
-tested : (t : Text) (b : Bool) → isWithin (1 to 20) (length t) ≡ b → isReplyNumber t ≡ b && every allowed t
-tested t b e = ap (λ x. x && every allowed t) e
-
-either : {a b c d : Bool} → a ≡ c → b ≡ d → a || b ≡ c || d
-either e f = rw (e, f)
+tested : (t : Text) (b : Bool) → isWithin (1 to 20) (length t) ≡ b → isReplyNumber t ≡ b && every capitalOrDigit t
+tested t b e = ap (λ x. x && every capitalOrDigit t) e
 
 abbrev Inv-loop : tie.InvT-loop
-Inv-loop t i₀ i = (i ≤ length t) × (every allowed (drop i t) ≡ every allowed t)
+Inv-loop t i₀ i = (i ≤ length t) × (every capitalOrDigit (drop i t) ≡ every capitalOrDigit t)
 
 abbrev μ-loop : tie.MeasureT-loop
 μ-loop t i₀ i = length t - i
@@ -34,27 +28,28 @@ returns c =
 
 returns-2 : tie.Need-returns-2 Inv-loop μ-loop
 returns-2 c =
-    let at = c .before .before .before .before .before .before in
+    let r = c .before in
+    let at = r .before .before .before in
     let t = at .before .before .before .args .t .now in
-    let e = either (c .before .before .before .is-capital .ensures) (c .before .is-digit .ensures) in
-    sym (every-step allowed t (at .loop .i) false (search needs) (sym e ∙ not-true _ (c .if2 .taken)))
+    sym (every-step capitalOrDigit t (at .loop .i) false (search needs) (sym (r .is-capital-or-digit .ensures) ∙ not-true _ (c .if2 .taken)))
     ∙ at .loop .inv .1
     ∙ sym (tested t true (not-false _ (at .before .if1 .left)))
 
 loop-again : tie.Need-loop-again Inv-loop μ-loop
 loop-again c =
-    let at = c .before .before .before .before .before .before in
-    let t = at .before .before .before .args .t .now in
-    let e = either (c .before .before .before .is-capital .ensures) (c .before .is-digit .ensures) in (
+    let r = c .before in
+    let at = r .before .before .before in
+    let t = at .before .before .before .args .t .now in (
       search needs,
-      sym (every-step allowed t (at .loop .i) true (search needs) (sym e ∙ not-false _ (c .if2 .left))) ∙ at .loop .inv .1,
+      sym (every-step capitalOrDigit t (at .loop .i) true (search needs) (sym (r .is-capital-or-digit .ensures) ∙ not-false _ (c .if2 .left)))
+          ∙ at .loop .inv .1,
     )
 
 returns-3 : tie.Need-returns-3 Inv-loop μ-loop
 returns-3 c =
     let at = c .before in
     let t = at .before .before .before .args .t .now in
-    sym (every-end allowed t (at .loop .i) (c .loop-test .left))
+    sym (every-end capitalOrDigit t (at .loop .i) (c .loop-test .left))
     ∙ at .loop .inv .1
     ∙ sym (tested t true (not-false _ (at .before .if1 .left)))
 
@@ -66,8 +61,6 @@ is-reply-number-spec =
     μ-loop
     returns
     (λ c. search needs)
-    (λ c. search needs)
-    (λ c κs. search needs)
     (λ c. search needs)
     (λ c κs. search needs)
     returns-2

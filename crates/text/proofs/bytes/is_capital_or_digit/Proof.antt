@@ -1,7 +1,7 @@
--- `is_capital_or_digit`.
+-- `is_capital_or_digit`: one of the two classes.
 use borrow.Author.Needs.{needs}
-use Rattle.frame.proofs.segment.is_capital_or_digit.Statement.{statement}
-use Rattle.frame.proofs.segment.is_capital_or_digit.Tie as tie
+use Rattle.text.proofs.bytes.is_capital_or_digit.Statement.{statement}
+use Rattle.text.proofs.bytes.is_capital_or_digit.Tie as tie
 
 returns : tie.Need-returns
 returns c = rw (c .is-digit .ensures, c .before .is-capital .ensures)
