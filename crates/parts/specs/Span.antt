@@ -1,4 +1,4 @@
--- What the code of the descent answers and is asked.
+-- What the code of the descent answers and is asked. Only inner functions promise it.
 use Prim.Native.Nat.{ℕ, zero, suc, _+_, _-_}
 use mathlib.Core.List.{List, [], _∷_}
 use lib.ListN.{length, take, drop}
