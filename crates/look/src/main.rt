@@ -2,6 +2,7 @@
 use libc::STDIN_FILENO;
 use libc::STDOUT_FILENO;
 use line::Asked;
+use reader::Found;
 use reader::Place;
 
 enum Question {
@@ -50,16 +51,19 @@ fn asked_place() -> Question {
 }
 
 // The line that tells what stands at the place, and below it the text, if there is one.
-fn tell(m: &[u8], p: Place) {
-    let found = reader::find(m, p);
+fn show(sort: Found, text: &[u8]) {
     let mut out = [0u8; 64];
-    let n = line::look_line(found, &mut out);
+    let n = line::look_line(sort, &mut out);
     io::write_all(STDOUT_FILENO, &out[0..n]);
-    let text = reader::text_of(m, found);
     if 0 < text.len() {
         io::write_all(STDOUT_FILENO, text);
         io::write_all(STDOUT_FILENO, b"\n");
     }
+}
+
+fn tell(m: &[u8], p: Place) {
+    let found = reader::look_up(m, p);
+    show(found.sort, found.text);
 }
 
 fn main() {

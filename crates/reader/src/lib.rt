@@ -7,7 +7,6 @@ pub use places::is_place;
 pub use search::LookedUp;
 pub use search::find;
 pub use search::look_up;
-pub use search::text_of;
 use text::Refusal;
 
 // A place: the name's three bytes, and the numbers as they are asked, of any size.
