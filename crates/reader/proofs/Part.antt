@@ -1,9 +1,9 @@
 -- What the promise of a look-up says of the part that is handed back.
-use mathlib.Core.Path.{_≡_, sym, ap, subst, _∙_}
-use Prim.Native.Nat.{ℕ, _+_, _-_}
+use mathlib.Core.Path.{_≡_, sym, ap, _∙_}
+use Prim.Native.Nat.{ℕ, _-_}
 use native.Mathlib.Omega.{arith}
-use mathlib.Core.List.{List, []}
-use lib.ListN.{length, take, drop}
+use mathlib.Core.List.{[]}
+use lib.ListN.{length}
 use denote.Ref.{RefT}
 use Rattle.text.specs.Bytes.{Text}
 use Rattle.text.specs.Answer.{given}
