@@ -7,22 +7,15 @@ use mathlib.Core.List.{[], _∷_}
 use lib.ListN.{length, getD, take}
 use lib.Dec.{eqb}
 use borrow.Author.Tests.{lt-ltb, le-ltb, eq-eqb, ne-eqb, not-true, not-false}
-use Rattle.text.specs.Bytes.{Text, cr, empty, every, same}
+use Rattle.text.specs.Bytes.{Text, cr, every, same}
 use Rattle.text.specs.Answer.{Answer, refused, first}
 use Rattle.text.specs.Marks.{marksOf}
+use Rattle.text.proofs.Tests.{empty-none, empty-some}
 use Rattle.text.specs.declared.refusal.Refusal.the-variants.{Empty, TooLong, BadByte, NoHeader, NoEnd}
 use Rattle.frame.specs.Frame.{allowed, header, endsWithCR, segmentTests, frameTests}
 
 abbrev Said : Type 0
 Said = Answer (Unit {0})
-
-empty-none : (m : Text) → length m ≡ 0 → empty m ≡ true
-empty-none [] e = refl
-empty-none (b ∷ m) e = absurd (omega arith)
-
-empty-some : (m : Text) → (length m ≡ 0 → ⊥) → empty m ≡ false
-empty-some [] n = absurd (n refl)
-empty-some (b ∷ m) n = refl
 
 -- the last byte tells whether a CR ends the message
 pub last-byte : (m : Text) → (length m ≡ 0 → ⊥) → endsWithCR m ≡ eqb (getD m (length m - 1) 0) cr

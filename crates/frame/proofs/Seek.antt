@@ -7,16 +7,15 @@ use mathlib.Core.List.{List, [], _∷_}
 use lib.ListN.{length, getD, drop}
 use lib.Dec.{ltb}
 use borrow.Author.Tests.{lt-ltb, le-ltb, ltb-true, ltb-false}
-use Rattle.text.specs.Bytes.{Text, pick, cr, keep}
+use Rattle.text.specs.Bytes.{Text, pick, cr, keep, within}
 use Rattle.parts.specs.Split.{before, reach}
-use Rattle.parts.specs.Span.{within}
 use Rattle.parts.proofs.Split.{before-first, before-le, stands-le}
 use Rattle.parts.proofs.Descent.{within-length}
 use Rattle.parts.proofs.Reach.{ended-on, before-on, ended-end}
 use Rattle.frame.specs.declared.segment.Standing.{Standing}
 use Rattle.frame.specs.declared.segment.Standing.the-variants.{Missing, Segment}
-use Rattle.frame.specs.Segments.{segments, named, ofName, ahead, occurrence, occurrenceStart}
-use Rattle.frame.specs.Told.{fewer, standing}
+use Rattle.frame.specs.Segments.{segments, named, ofName, ahead, occurrence, occurrenceStart, fewer}
+use Rattle.frame.specs.Told.{standing}
 use Rattle.frame.proofs.Segments.{occurrence-stands}
 
 -- the segment of a name that has i of that name before it, among those from a place on

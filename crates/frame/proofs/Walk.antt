@@ -7,14 +7,13 @@ use mathlib.Core.List.{List, [], _∷_}
 use lib.ListN.{length, drop}
 use lib.Dec.{ltb}
 use borrow.Author.Tests.{lt-ltb, le-ltb}
-use Rattle.text.specs.Bytes.{Text, pick, cr, every, some}
+use Rattle.text.specs.Bytes.{Text, pick, cr, every, some, within}
 use Rattle.text.specs.Answer.{Answer, refused, given, first}
 use Rattle.text.specs.Marks.{marksOf}
 use Rattle.text.specs.declared.marks.Marks.{Marks}
 use Rattle.text.specs.declared.refusal.Refusal.the-variants.{BadSegment, SecondHeader, TooMany}
 use Rattle.text.proofs.Lists.{or-assoc, or-false}
 use Rattle.parts.specs.Split.{reach}
-use Rattle.parts.specs.Span.{within}
 use Rattle.parts.proofs.Reach.{ended-on, ended-end}
 use Rattle.frame.specs.Segments.{segments, isHeader}
 use Rattle.frame.specs.Frame.{isSegment, segmentTests}

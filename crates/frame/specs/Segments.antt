@@ -2,8 +2,8 @@
 use Prim.Native.Nat.{ℕ, zero, suc, _+_}
 use mathlib.Core.Bool.{Bool, false, _&&_}
 use mathlib.Core.List.{List, [], _∷_}
-use lib.ListN.{take, drop}
-use lib.Dec.{leb}
+use lib.ListN.{length, take, drop}
+use lib.Dec.{leb, ltb}
 use Rattle.text.specs.Bytes.{Text, pick, bytes, cr, capital, capitalOrDigit, keep, same}
 use Rattle.text.specs.declared.marks.Marks.{Marks}
 use Rattle.parts.specs.Split.{split, piece, start, before, ended}
@@ -43,6 +43,10 @@ occurrence m n o = piece o (ofName n (segments m))
 abbrev pub occurrenceStart : Text → Text → ℕ → ℕ
 occurrenceStart m n zero = 0
 occurrenceStart m n (suc i) = before cr m (ahead n (segments m) i)
+
+-- fewer segments of that name
+abbrev pub fewer : Text → Text → ℕ → Bool
+fewer m n o = ltb (length (ofName n (segments m))) o
 
 abbrev pub isHeader : Text → Bool
 isHeader s = named (bytes "MSH") s

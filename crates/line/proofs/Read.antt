@@ -10,7 +10,7 @@ use lib.Seq.{drop-cons}
 use lib.Dec.{leb}
 use borrow.Author.Tests.{leb-true}
 use Rattle.text.specs.Bytes.{Text, pick, byte, digit, empty, every}
-use Rattle.text.proofs.Tests.{both}
+use Rattle.text.proofs.Tests.{both, empty-none, empty-some}
 use Rattle.line.specs.declared.place.Asked.the-variants.{Bad, Number}
 use Rattle.line.specs.Asked.{most, fitting, valueFrom, asked}
 
@@ -44,10 +44,6 @@ pick-bad : {A : Type 0} (b : Bool) (x y : A) → pick (b || true) x y ≡ x
 pick-bad true x y = refl
 pick-bad false x y = refl
 
-filled : (t : Text) → 0 < length t → empty t ≡ false
-filled [] h = absurd (omega arith)
-filled (b ∷ t) h = refl
-
 module _ (t : Text) (n i : ℕ) (r : Read t n i) where
   pub read-on : i < length t → digit (getD t i 0) ≡ true → Read t (fitting (n * 10 + (getD t i 0 - byte "0"))) (i + 1)
   unfolding every valueFrom
@@ -67,12 +63,11 @@ module _ (t : Text) (n i : ℕ) (r : Read t n i) where
       let d : drop i t ≡ getD t i 0 ∷ drop (i + 1) t = rw (add-one i) (drop-cons t i 0 h) in
       rw (← r .digits, d, e) (pick-bad (empty t) Bad (Number (fitting (valueFrom 0 t))))
 
-  pub read-all : 0 < length t → length t ≤ i → asked t ≡ Number n
+  pub read-all : (length t ≡ 0 → ⊥) → length t ≤ i → asked t ≡ Number n
   unfolding every valueFrom asked
   read-all z h =
-      rw (← r .digits, ← r .value, drop-of-length-le t h, filled t z) (ap Number (omega arith))
+      rw (← r .digits, ← r .value, drop-of-length-le t h, empty-some t z) (ap Number (omega arith))
 
 pub read-empty : (t : Text) → length t ≡ 0 → asked t ≡ Bad
 unfolding asked
-read-empty [] e = refl
-read-empty (b ∷ t) e = absurd (omega arith)
+read-empty t e = rw (empty-none t e)

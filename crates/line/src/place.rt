@@ -14,7 +14,7 @@ pub enum Asked {
 const MOST: u64 = 18446744073709551615;
 
 // The number with one more digit.
-fn behind(n: u64, b: u8) -> u64
+fn with_digit(n: u64, b: u8) -> u64
     requires { ⌜ byte "0" ≤ b ⌝ }
     ensures { λ r. ⌜ r ≡ fitting (n * 10 + (b - byte "0")) ⌝ }
 {
@@ -39,7 +39,7 @@ pub fn asked_number(t: &[u8]) -> Asked
         if !is_digit(b) {
             return Asked::Bad;
         }
-        n = behind(n, b);
+        n = with_digit(n, b);
         i += 1;
     }
     Asked::Number(n)

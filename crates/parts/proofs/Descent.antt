@@ -6,12 +6,12 @@ use mathlib.Core.Bool.{Bool, true, false}
 use mathlib.Core.List.{List, [], _∷_}
 use lib.ListN.{length, take, drop, length-drop}
 use lib.Seq.{take-length, length-take-le}
-use Rattle.text.specs.Bytes.{Text}
+use Rattle.text.specs.Bytes.{Text, within}
 use Rattle.text.specs.declared.marks.Marks.{Marks}
 use Rattle.parts.specs.declared.Span.{Span}
 use Rattle.parts.specs.declared.Numbers.{Numbers}
 use Rattle.parts.specs.Split.{split, piece, start}
-use Rattle.parts.specs.Span.{span, within, markOf, numberOf, stepsFrom}
+use Rattle.parts.specs.Span.{span, markOf, numberOf, stepsFrom}
 use Rattle.parts.specs.Descent.{Step, cut, startIn, part, partStart}
 use Rattle.parts.proofs.Split.{Stands, stands, stands-in, piece-le}
 

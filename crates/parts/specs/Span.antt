@@ -1,7 +1,7 @@
 -- What the code of the descent answers and is asked. Only inner functions promise it.
-use Prim.Native.Nat.{ℕ, zero, suc, _+_, _-_}
+use Prim.Native.Nat.{ℕ, zero, suc, _+_}
 use mathlib.Core.List.{List, [], _∷_}
-use lib.ListN.{length, take, drop}
+use lib.ListN.{length}
 use Rattle.text.specs.Bytes.{Text}
 use Rattle.text.specs.declared.marks.Marks.{Marks}
 use Rattle.parts.specs.Descent.{Step, step}
@@ -11,10 +11,6 @@ use Rattle.parts.specs.declared.Numbers.{Numbers}
 -- a text that stands at a start: from there up to its end
 abbrev pub span : ℕ → Text → Span
 span k p = record { start = k; end = k + length p }
-
--- the bytes from one place of a text up to another
-abbrev pub within : ℕ → ℕ → Text → Text
-within from to m = take (to - from) (drop from m)
 
 -- what belongs to a depth: 4 a segment's fields, 3 a field, 2 a repetition, 1 a component
 abbrev pub atDepth : ℕ → ℕ → ℕ → ℕ → ℕ → ℕ

@@ -5,7 +5,8 @@ ghost use Prim.Native.Nat.{_+_, _≤_};
 ghost use lib.ListN.{length, drop};
 ghost use Rattle.parts.specs.Split.{split, start, reach};
 ghost use Rattle.parts.specs.Descent.{part, partStart};
-ghost use Rattle.parts.specs.Span.{span, within, markOf, numberOf, stepsFrom};
+ghost use Rattle.text.specs.Bytes.{within};
+ghost use Rattle.parts.specs.Span.{span, markOf, numberOf, stepsFrom};
 use text::Marks;
 
 // The bytes from start up to, not including, end.
@@ -36,7 +37,8 @@ pub fn piece_end(t: &[u8], from: usize, sep: u8) -> usize
     i
 }
 
-// Whether one of sixteen bytes is the separator: no early way out, so that they are compared at once.
+// Whether one of sixteen bytes is the separator: no early way out, so that they are compared at once. Only that none is missed is promised,
+// since a false alarm would cost time and no answer.
 fn sixteen_have(t: &[u8], from: usize, sep: u8) -> bool
     requires { ⌜ from + 16 ≤ length (now t) ⌝ }
     ensures { λ r. ⌜ (r ≡ false → reach sep (drop from (now (t .entry))) ≡ 16 + reach sep (drop (from + 16) (now (t .entry)))) ⌝ }

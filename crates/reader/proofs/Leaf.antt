@@ -10,7 +10,7 @@ use lib.Seq.{drop-drop, take-nil}
 use lib.Dec.{eqb, leb}
 use borrow.Author.Tests as tests
 use borrow.Author.Tests.{lt-leb, le-leb, eqb-true}
-use Rattle.text.specs.Bytes.{Text, pick}
+use Rattle.text.specs.Bytes.{Text, pick, within}
 use Rattle.text.specs.Answer.{Answer, given}
 use Rattle.text.specs.declared.marks.Marks.{Marks}
 use Rattle.text.proofs.Tests.{not-true}
@@ -18,12 +18,12 @@ use Rattle.parts.specs.declared.Span.{Span}
 use Rattle.parts.specs.declared.Numbers.{Numbers}
 use Rattle.parts.specs.Split.{split, piece, start}
 use Rattle.parts.specs.Descent.{Step, part, partStart, inField}
-use Rattle.parts.specs.Span.{span, within, stepsFrom}
+use Rattle.parts.specs.Span.{span, stepsFrom}
 use Rattle.parts.proofs.Descent.{within-length, reached}
 use Rattle.frame.specs.Segments.{isHeader, field, fieldStart}
 use Rattle.reader.specs.Place.{leafAt, leafStart}
 use Rattle.reader.specs.LookUp.{Found, Empty, Text-from-to, shown}
-use Rattle.reader.specs.Leaf.{leafFound, leafBehind}
+use Rattle.reader.specs.Inner.{leafFound, leafBehind}
 
 -- what is shown of a text: by its start and its length
 pub shown-none : (k : ℕ) (t : Text) → length t ≡ 0 → Empty ≡ shown k t

@@ -8,7 +8,7 @@ use lib.ListN.{length, drop, length-take, length-drop}
 use denote.Ref.{RefT}
 use lib.Dec.{leb}
 use borrow.Author.Tests.{leb-true, not-true, not-false}
-use Rattle.text.specs.Bytes.{Text}
+use Rattle.text.specs.Bytes.{Text, within}
 use Rattle.text.specs.Types.{_to_, isWithin}
 use Rattle.text.proofs.Tests.{both}
 use Rattle.text.specs.Answer.{Answer, refused, given, Test, test, first}
@@ -18,7 +18,6 @@ use Rattle.text.specs.declared.marks.Marks.{Marks}
 use Rattle.text.specs.Marks.{marksOf}
 use Rattle.parts.specs.Descent.{part, partStart, inField}
 use Rattle.parts.specs.declared.Numbers.{Numbers}
-use Rattle.parts.specs.Span.{within}
 use Rattle.parts.proofs.Split.{Stands, stands-in}
 use Rattle.parts.proofs.Descent.{part-stands}
 use Rattle.frame.specs.Segments.{isName, occurrence, occurrenceStart, field, fieldStart, unsplit}
@@ -34,9 +33,10 @@ use Rattle.frame.proofs.Seek.{standing-missing, standing-enough, standing-start
 use Rattle.reader.specs.declared.Place as code
 use Rattle.reader.specs.declared.Found as code-found
 use Rattle.reader.specs.LookUp.{Found, Text-from-to, shown, found, tooFew, lookUpTests, lookUp}
-use Rattle.reader.specs.Leaf.{leafFound}
+use Rattle.reader.specs.Inner.{leafFound}
 use Rattle.reader.specs.Told.{placeOf, foundOf}
-use Rattle.reader.specs.Part.{VeryPart, startOf, endOf, Inside}
+use Rattle.reader.specs.Inner.{Inside}
+use Rattle.reader.specs.Part.{VeryPart, startOf, endOf}
 use Rattle.reader.specs.Place.{Place, isPlace, leafAt, leafStart, textAt, startAt}
 
 leaf-stands : (q : Marks) (s : Text) (f r c b : ℕ) → Stands s (leafStart q s f r c b) (leafAt q s f r c b)

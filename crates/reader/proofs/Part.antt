@@ -5,10 +5,9 @@ use native.Mathlib.Omega.{arith}
 use mathlib.Core.List.{[]}
 use lib.ListN.{length}
 use denote.Ref.{RefT}
-use Rattle.text.specs.Bytes.{Text}
+use Rattle.text.specs.Bytes.{Text, within}
 use Rattle.text.specs.Answer.{given}
 use Rattle.text.proofs.Answer.{first-asked}
-use Rattle.parts.specs.Span.{within}
 use Rattle.reader.specs.declared.Place as code
 use Rattle.reader.specs.declared.Found as code-found
 use Rattle.reader.specs.declared.search.LookedUp.{LookedUp}

@@ -7,7 +7,7 @@ use Rattle.text.specs.Bytes.{Text, pick, empty}
 use Rattle.text.specs.Answer.{Answer, Test, test, first}
 use Rattle.text.specs.declared.refusal.Refusal.the-variants.{BadPlace, NoSegment}
 use Rattle.frame.specs.Frame.{frameTests}
-use Rattle.frame.specs.Told.{fewer}
+use Rattle.frame.specs.Segments.{fewer}
 use Rattle.reader.specs.Place.{Place, isPlace, textAt, startAt}
 
 pub data Found : Type 0 where

@@ -1,9 +1,8 @@
 -- The very part of a lent message: its bytes, and where they lie.
-use Prim.Native.Nat.{ℕ, _+_, _≤_}
+use Prim.Native.Nat.{ℕ, _+_}
 use mathlib.Core.Path.{_≡_}
 use denote.Ref.{RefT}
-use Rattle.text.specs.Bytes.{Text}
-use Rattle.parts.specs.Span.{within}
+use Rattle.text.specs.Bytes.{Text, within}
 use Rattle.reader.specs.declared.Found.{Found}
 use Rattle.reader.specs.declared.Found.the-variants as found
 
@@ -23,6 +22,3 @@ abbrev pub endOf : Found → ℕ
 endOf (found.Refused r) = 0
 endOf found.Empty = 0
 endOf (found.Text a e) = e
-
-abbrev pub Inside : Found → ℕ → Type 0
-Inside f n = (startOf f ≤ endOf f) × (endOf f ≤ n)

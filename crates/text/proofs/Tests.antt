@@ -9,7 +9,7 @@ use lib.ListN.{length, getD, drop, drop-of-length-le}
 use lib.Seq.{drop-cons}
 use lib.Dec.{eqb}
 use borrow.Author.Tests.{eq-eqb, ne-eqb, eqb-true}
-use Rattle.text.specs.Bytes.{Text, same}
+use Rattle.text.specs.Bytes.{Text, empty, same}
 
 -- what is false is not true
 pub not-true : {A : Type 0} → false ≡ true → A
@@ -37,6 +37,15 @@ same-self (x ∷ s) = rw (eq-eqb x x refl) (same-self s)
 and-false : (b : Bool) → b && false ≡ false
 and-false true = refl
 and-false false = refl
+
+-- whether a text is empty, by its length
+pub empty-none : (t : Text) → length t ≡ 0 → empty t ≡ true
+empty-none [] e = refl
+empty-none (b ∷ t) e = absurd (omega arith)
+
+pub empty-some : (t : Text) → (length t ≡ 0 → ⊥) → empty t ≡ false
+empty-some [] n = absurd (n refl)
+empty-some (b ∷ t) n = refl
 
 -- texts of different lengths differ
 pub same-length : (s t : Text) → (length s ≡ length t → ⊥) → same s t ≡ false

@@ -1,10 +1,10 @@
 -- Bytes and texts, and the tests on them that every other definition is made of.
-use Prim.Native.Nat.{ℕ}
+use Prim.Native.Nat.{ℕ, _-_}
 use Prim.Native.Char.{code}
 use Prim.Native.String as string
 use mathlib.Core.Bool.{Bool, true, false, _&&_, _||_}
 use mathlib.Core.List.{List, [], _∷_}
-use lib.ListN.{getD}
+use lib.ListN.{getD, take, drop}
 use lib.Dec.{eqb, leb}
 
 -- a message, a part of one, a buffer and a book are each a list of bytes
@@ -42,6 +42,10 @@ printable b = leb 0x20 b && leb b 0x7E
 abbrev pub empty : {A : Type 0} → List A → Bool
 empty [] = true
 empty (x ∷ xs) = false
+
+-- the bytes from one place of a text up to another
+abbrev pub within : ℕ → ℕ → Text → Text
+within from to t = take (to - from) (drop from t)
 
 -- the test holds of each member; of some member
 unfoldable pub every : {A : Type 0} → (A → Bool) → List A → Bool

@@ -1,18 +1,16 @@
 // Bytes, escapes and simple types; the numbers that a caller gets back.
 mod bytes;
-mod decimal;
 mod escape;
 mod marks;
 mod refusal;
 mod types;
+mod writing;
 
 pub use bytes::is_capital;
 pub use bytes::is_capital_or_digit;
 pub use bytes::is_digit;
 pub use bytes::is_printable;
 pub use bytes::is_same;
-pub use decimal::put;
-pub use decimal::put_decimal;
 pub use escape::bad_escape;
 pub use escape::resolve;
 pub use marks::Marks;
@@ -26,6 +24,8 @@ pub use types::is_reply_number;
 pub use types::is_si;
 pub use types::is_stamp;
 pub use types::is_tm;
+pub use writing::put;
+pub use writing::put_decimal;
 
 // The answer of a call that writes into a lent buffer: refused, or so many bytes written.
 pub enum Written {

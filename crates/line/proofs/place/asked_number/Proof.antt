@@ -26,13 +26,13 @@ returns-2 c =
     sym (read-bad (at .before .before .before .args .t .now) (at .loop .n) (at .loop .i) (at .loop .inv) (search needs)
     (sym (c .before .is-digit .ensures) ∙ not-true _ (c .if2 .taken)))
 
-behind-requires : tie.Need-behind-requires Inv-loop μ-loop
-behind-requires c κs = digit-low _ (sym (c .before .is-digit .ensures) ∙ not-false _ (c .if2 .left))
+with-digit-requires : tie.Need-with-digit-requires Inv-loop μ-loop
+with-digit-requires c κs = digit-low _ (sym (c .before .is-digit .ensures) ∙ not-false _ (c .if2 .left))
 
 loop-again : tie.Need-loop-again Inv-loop μ-loop
 loop-again c =
     let at = c .before .before .before .before .before in
-    rw (c .behind .ensures)
+    rw (c .with-digit .ensures)
     (read-on (at .before .before .before .args .t .now) (at .loop .n) (at .loop .i) (at .loop .inv) (search needs)
     (sym (c .before .before .is-digit .ensures) ∙ not-false _ (c .before .if2 .left)))
 
@@ -52,7 +52,7 @@ asked-number-spec =
     (λ c. search needs)
     (λ c κs. search needs)
     returns-2
-    behind-requires
+    with-digit-requires
     (λ c. search needs)
     (λ c. search needs)
     loop-again

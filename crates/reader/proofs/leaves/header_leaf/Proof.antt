@@ -3,7 +3,7 @@ use Rattle.reader.specs.Told.{foundOf}
 use mathlib.Core.Path.{ap, _∙_}
 use lib.ListN.{take, drop}
 use Rattle.text.specs.Answer.{given}
-use Rattle.parts.specs.Span.{within}
+use Rattle.text.specs.Bytes.{within}
 use Rattle.reader.proofs.Leaf.{header-third, header-none, header-first, header-second, clip-length}
 use borrow.Author.Needs.{needs}
 use Rattle.reader.proofs.leaves.header_leaf.Statement.{statement}

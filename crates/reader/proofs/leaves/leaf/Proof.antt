@@ -1,7 +1,7 @@
 -- `leaf`: the header's way, or that of any other segment.
 use Rattle.reader.specs.Told.{foundOf}
 use mathlib.Core.Path.{sym, _∙_}
-use Rattle.parts.specs.Span.{within}
+use Rattle.text.specs.Bytes.{within}
 use Rattle.reader.proofs.Leaf.{leaf-fields}
 use borrow.Author.Needs.{needs}
 use Rattle.reader.proofs.leaves.leaf.Statement.{statement}

@@ -3,7 +3,8 @@ use Prim.Native.Nat.{_+_}
 use mathlib.Core.Bool.{false}
 use lib.ListN.{drop}
 use Rattle.parts.specs.Descent.{part, partStart}
-use Rattle.parts.specs.Span.{within, stepsFrom}
+use Rattle.text.specs.Bytes.{within}
+use Rattle.parts.specs.Span.{stepsFrom}
 use mathlib.Core.Path.{ap}
 use Rattle.text.specs.Answer.{given}
 use Rattle.reader.proofs.Leaf.{behind-short, behind-reached}

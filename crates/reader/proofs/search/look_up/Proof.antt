@@ -41,7 +41,8 @@ use denote.Exit.{yes}
 use denote.Triple.Clauses.{ensured, lasts}
 use Rattle.reader.specs.LookUp.{lookUp}
 use Rattle.reader.specs.Told.{placeOf, foundOf}
-use Rattle.reader.specs.Part.{VeryPart, startOf, endOf, Inside}
+use Rattle.reader.specs.Part.{VeryPart, startOf, endOf}
+use Rattle.reader.specs.Inner.{Inside}
 use Rattle.reader.specs.Promise.{LooksUp}
 use Rattle.reader.specs.declared.search.LookedUp.{LookedUp}
 use Rattle.reader.specs.declared.Found.{Found}
@@ -67,11 +68,11 @@ use Rattle.reader.proofs.search.look_up.Statement as stated
 use Rattle.reader.proofs.search.look_up.Code as code
 
 -- the result's type, over the signature's lifetimes
-abbrev B : Lfts 1 → RattleType
-B κs = T.the-row (namedLft 1 0 tt κs)
+abbrev Answer-row : Lfts 1 → RattleType
+Answer-row κs = T.the-row (namedLft 1 0 tt κs)
 
-abbrev stayed : Stays (look-up.ended .signature .params) (look-up.ended .kept)
-stayed = (stay-none-slice (0 ∷ []) tt (plain (λ _. u8)) yes, (stay-none (λ _. P.the-row) yes, tt))
+abbrev as-lent : Stays (look-up.ended .signature .params) (look-up.ended .kept)
+as-lent = (stay-none-slice (0 ∷ []) tt (plain (λ _. u8)) yes, (stay-none (λ _. P.the-row) yes, tt))
 
 module _ {M : Type 1} (𝓤 : URA M) (H : Heap 𝓤) (A : Atoms 𝓤) (mem : Memory → SProp 𝓤) (run : Routine → Fun 𝓤) where
   -- the contracts that the walk cites
@@ -86,111 +87,111 @@ module _ {M : Type 1} (𝓤 : URA M) (H : Heap 𝓤) (A : Atoms 𝓤) (W : Given
   α = namedLft 1 0 tt (κ, tt)
 
   -- the machine values of the message and of the place
-  abbrev v : Val
-  v = sliceVal (m .ptr) (length (m .now))
+  abbrev message-value : Val
+  message-value = sliceVal (m .ptr) (length (m .now))
 
-  abbrev w : Val
-  w = LL.tuple-val P.the-type P′.the-laws (P.the-type .to p)
+  abbrev place-value : Val
+  place-value = LL.tuple-val P.the-type P′.the-laws (P.the-type .to p)
 
-  abbrev at : Vals look-up.signature (κ, tt)
-  at = (v ∷ [], (w ∷ [], tt))
+  abbrev arguments : Vals look-up.signature (κ, tt)
+  arguments = (message-value ∷ [], (place-value ∷ [], tt))
 
   -- the result, and its machine value, of those of its fields
-  abbrev made : Found → RefT (List ℕ) → LookedUp
-  made f t = record { sort = f; text = t }
+  abbrev answer : Found → RefT (List ℕ) → LookedUp
+  answer f t = record { sort = f; text = t }
 
-  abbrev mach : Val → Val → Val
-  mach uf ut = vstruct (vcons uf (vcons ut vnil))
+  abbrev answer-value : Val → Val → Val
+  answer-value sort-value text-value = vstruct (vcons sort-value (vcons text-value vnil))
 
   abbrev Post : Val → SProp 𝓤
-  Post = walkOf 𝓤 H A look-up.ended stayed (look-up.clauses 𝓤 H A mem run) .post (((κ, tt), (q, tt), tt, (m, (p, tt)), at), tt)
+  Post = walkOf 𝓤 H A look-up.ended as-lent (look-up.clauses 𝓤 H A mem run) .post (((κ, tt), (q, tt), tt, (m, (p, tt)), arguments), tt)
 
-  abbrev Own : Fml
-  Own = ShrSlice (named 0) κ u8 .own m (v ∷ [])
+  abbrev Message-owned : Fml
+  Message-owned = ShrSlice (named 0) κ u8 .own m (message-value ∷ [])
 
   -- the call of `find`, and what it says
-  abbrev to-find : Find 𝓤 H A mem run .Ghost
-  to-find = (((κ, tt), (q, tt), tt, (m, (p, tt)), at), tt)
+  abbrev find-call : Find 𝓤 H A mem run .Ghost
+  find-call = (((κ, tt), (q, tt), tt, (m, (p, tt)), arguments), tt)
 
-  goes-find : ent 𝓤 (onEntry 𝓤 H A look-up.signature (κ, tt) (q, tt) (m, (p, tt)) at) (sep 𝓤 (Find 𝓤 H A mem run .pre to-find) (sem 𝓤 H A Own))
-  goes-find =
-      qed W ((‵ (flft κ q) ⊛ ‵ ftrue) ∷ ‵ (owns (ShrSlice (named 0) κ u8 ∷ P.the-row ∷ []) (m, (p, tt)) at) ∷ []) ∵
-      move ! (1 ∷ []) $ fsplit ! $ use1 W (‵ Own ⊛ ‵ Own) (shr-slice-copy 𝓤 H A W (named 0) κ u8 .twice m (v ∷ [])) $ split ! $
+  find-called : ent 𝓤 (onEntry 𝓤 H A look-up.signature (κ, tt) (q, tt) (m, (p, tt)) arguments) (sep 𝓤 (Find 𝓤 H A mem run .pre find-call) (sem 𝓤 H A Message-owned))
+  find-called =
+      qed W ((‵ (flft κ q) ⊛ ‵ ftrue) ∷ ‵ (owns (ShrSlice (named 0) κ u8 ∷ P.the-row ∷ []) (m, (p, tt)) arguments) ∷ []) ∵
+      move ! (1 ∷ []) $ fsplit ! $ use1 W (‵ Message-owned ⊛ ‵ Message-owned) (shr-slice-copy 𝓤 H A W (named 0) κ u8 .twice m (message-value ∷ [])) $ split ! $
       move ! (0 ∷ 2 ∷ []) $ fjoin ! $ move ! (2 ∷ 0 ∷ []) $
-      use2 W (raw (Find 𝓤 H A mem run .pre to-find)) (qed W ((‵ (flft κ q) ⊛ ‵ ftrue) ∷ ‵ (owns (ShrSlice (named 0) κ u8 ∷ P.the-row ∷ []) (m, (p, tt)) at) ∷ []) ∵ join ! $ frame ! $ done !) $
+      use2 W (raw (Find 𝓤 H A mem run .pre find-call)) (qed W ((‵ (flft κ q) ⊛ ‵ ftrue) ∷ ‵ (owns (ShrSlice (named 0) κ u8 ∷ P.the-row ∷ []) (m, (p, tt)) arguments) ∷ []) ∵ join ! $ frame ! $ done !) $
       frame ! $ done !
 
-  abbrev Finds : Found → Type 0
-  Finds f = foundOf f ≡ lookUp (now m) (placeOf p)
+  abbrev Found-right : Found → Type 0
+  Found-right f = foundOf f ≡ lookUp (now m) (placeOf p)
 
-  find-said : (f : Found) → ent 𝓤 (ensured 𝓤 H A find.ended (find.clauses 𝓤 H A mem run) (κ, tt) (m, (p, tt)) tt f) (fact 𝓤 (Finds f))
-  find-said f = exE 𝓤 _ (λ ws. snd∗ 𝓤 (sem 𝓤 H A (lasts find.ended (κ, tt) (m, (p, tt)) ws)) (fact 𝓤 (Finds f)))
+  find-tells : (f : Found) → ent 𝓤 (ensured 𝓤 H A find.ended (find.clauses 𝓤 H A mem run) (κ, tt) (m, (p, tt)) tt f) (fact 𝓤 (Found-right f))
+  find-tells f = exE 𝓤 _ (λ ws. snd∗ 𝓤 (sem 𝓤 H A (lasts find.ended (κ, tt) (m, (p, tt)) ws)) (fact 𝓤 (Found-right f)))
 
-  -- the call of `text_of` with the answer f, whose machine value is uf
-  abbrev to-text : Found → Val → TextOf 𝓤 H A mem run .Ghost
-  to-text f uf = (((κ, tt), (q, tt), tt, (m, (f, tt)), (v ∷ [], (uf ∷ [], tt))), tt)
+  -- the call of `text_of` with the answer f, whose machine value is sort-value
+  abbrev text-call : Found → Val → TextOf 𝓤 H A mem run .Ghost
+  text-call f sort-value = (((κ, tt), (q, tt), tt, (m, (f, tt)), (message-value ∷ [], (sort-value ∷ [], tt))), tt)
 
-  goes-text : (f : Found) (uf : Val) → Inside f (length (now m))
-      → ent 𝓤 (⋆ 𝓤 H A (‵ (F.the-row .own f (uf ∷ [])) ∷ ‵ Own ∷ (‵ (flft κ q) ⊛ ‵ ftrue) ∷ [])) (TextOf 𝓤 H A mem run .pre (to-text f uf))
-  goes-text f uf inside =
-      qed W (‵ (F.the-row .own f (uf ∷ [])) ∷ ‵ Own ∷ (‵ (flft κ q) ⊛ ‵ ftrue) ∷ []) ∵ says ! inside $ move ! (2 ∷ []) $ frame ! $
+  text-called : (f : Found) (sort-value : Val) → Inside f (length (now m))
+      → ent 𝓤 (⋆ 𝓤 H A (‵ (F.the-row .own f (sort-value ∷ [])) ∷ ‵ Message-owned ∷ (‵ (flft κ q) ⊛ ‵ ftrue) ∷ [])) (TextOf 𝓤 H A mem run .pre (text-call f sort-value))
+  text-called f sort-value inside =
+      qed W (‵ (F.the-row .own f (sort-value ∷ [])) ∷ ‵ Message-owned ∷ (‵ (flft κ q) ⊛ ‵ ftrue) ∷ []) ∵ says ! inside $ move ! (2 ∷ []) $ frame ! $
       nothing ! $ move ! (1 ∷ 0 ∷ []) $ fjoin ! $ move ! (1 ∷ 0 ∷ []) $ fjoin ! $ done !
 
-  abbrev Tells : Found → RefT (List ℕ) → Type 0
-  Tells f t = VeryPart t m (startOf f) (endOf f)
+  abbrev Part-right : Found → RefT (List ℕ) → Type 0
+  Part-right f t = VeryPart t m (startOf f) (endOf f)
 
-  text-said : (f : Found) (t : RefT (List ℕ)) → ent 𝓤 (ensured 𝓤 H A text-of.ended (text-of.clauses 𝓤 H A mem run) (κ, tt) (m, (f, tt)) tt t) (fact 𝓤 (Tells f t))
-  text-said f t = exE 𝓤 _ (λ ws. snd∗ 𝓤 (sem 𝓤 H A (lasts text-of.ended (κ, tt) (m, (f, tt)) ws)) (fact 𝓤 (Tells f t)))
+  text-tells : (f : Found) (t : RefT (List ℕ)) → ent 𝓤 (ensured 𝓤 H A text-of.ended (text-of.clauses 𝓤 H A mem run) (κ, tt) (m, (f, tt)) tt t) (fact 𝓤 (Part-right f t))
+  text-tells f t = exE 𝓤 _ (λ ws. snd∗ 𝓤 (sem 𝓤 H A (lasts text-of.ended (κ, tt) (m, (f, tt)) ws)) (fact 𝓤 (Part-right f t)))
 
-  -- what the result's fields own, at their machine values
-  abbrev held : Found → RefT (List ℕ) → List Val × (List Val × Unit {0}) → Fml
-  held f t vss = fsep (F.the-row .own f (vss .0)) (fsep (ShrSlice (named 0) κ u8 .own t (vss .1 .0)) ftrue)
+  -- what the result's fields own, arguments their machine values
+  abbrev fields-owned : Found → RefT (List ℕ) → List Val × (List Val × Unit {0}) → Fml
+  fields-owned f t vss = fsep (F.the-row .own f (vss .0)) (fsep (ShrSlice (named 0) κ u8 .own t (vss .1 .0)) ftrue)
 
-  exits : Is P.the-row p (w ∷ []) → (f : Found) (t : RefT (List ℕ)) (uf ut : Val) → LooksUp m p (made f t)
-      → ent 𝓤 (⋆ 𝓤 H A (‵ (B (κ, tt) .own (made f t) (mach uf ut ∷ [])) ∷ (‵ (flft κ q) ⊛ ‵ ftrue) ∷ ‵ Own ∷ [])) (Post (mach uf ut))
-  exits is-p f t uf ut e =
-      qed W (‵ (B (κ, tt) .own (made f t) (mach uf ut ∷ [])) ∷ (‵ (flft κ q) ⊛ ‵ ftrue) ∷ ‵ Own ∷ []) ∵
-      suffices ! _ (ends-at 𝓤 H A look-up.ended stayed (look-up.clauses 𝓤 H A mem run) W (((κ, tt), (q, tt), tt, (m, (p, tt)), at), tt) (mach uf ut) (made f t) (tt, (tt, tt)) (tt, (tt, tt))) $ says ! e $
+  leaves : Is P.the-row p (place-value ∷ []) → (f : Found) (t : RefT (List ℕ)) (sort-value text-value : Val) → LooksUp m p (answer f t)
+      → ent 𝓤 (⋆ 𝓤 H A (‵ (Answer-row (κ, tt) .own (answer f t) (answer-value sort-value text-value ∷ [])) ∷ (‵ (flft κ q) ⊛ ‵ ftrue) ∷ ‵ Message-owned ∷ [])) (Post (answer-value sort-value text-value))
+  leaves is-p f t sort-value text-value e =
+      qed W (‵ (Answer-row (κ, tt) .own (answer f t) (answer-value sort-value text-value ∷ [])) ∷ (‵ (flft κ q) ⊛ ‵ ftrue) ∷ ‵ Message-owned ∷ []) ∵
+      suffices ! _ (ends-at 𝓤 H A look-up.ended as-lent (look-up.clauses 𝓤 H A mem run) W (((κ, tt), (q, tt), tt, (m, (p, tt)), arguments), tt) (answer-value sort-value text-value) (answer f t) (tt, (tt, tt)) (tt, (tt, tt))) $ says ! e $
       move ! (1 ∷ []) $ frame ! $ nothing ! $ owned ! P.the-row (Is P.the-row) (LL.makes P.the-type P′.the-plain 𝓤 H A) p _ is-p $ fjoin ! $ move ! (2 ∷ 0 ∷ []) $ fjoin ! $ frame ! $ done !
 
   module _ (C : Calls 𝓤 H) (Λ : Loops 𝓤 H) (fm : FmC 𝓤 H (W .laws) C) (known-find : Triple 𝓤 (C #find) (Find 𝓤 H A mem run)) (known-text : Triple 𝓤 (C #text-of) (TextOf 𝓤 H A mem run)) where
-    walk : Is (ShrSlice (named 0) κ u8) m (v ∷ []) → Is P.the-row p (w ∷ []) → Holds (hasTy P′.mir w) × WT w
-        → ent 𝓤 (onEntry 𝓤 H A look-up.signature (κ, tt) (q, tt) (m, (p, tt)) at) (WpFn 𝓤 H C Λ code.function (v ∷ w ∷ []) Post)
+    walk : Is (ShrSlice (named 0) κ u8) m (message-value ∷ []) → Is P.the-row p (place-value ∷ []) → Holds (hasTy P′.mir place-value) × WT place-value
+        → ent 𝓤 (onEntry 𝓤 H A look-up.signature (κ, tt) (q, tt) (m, (p, tt)) arguments) (WpFn 𝓤 H C Λ code.function (message-value ∷ place-value ∷ []) Post)
     walk is-m is-p wt =
-        qed W (raw (onEntry 𝓤 H A look-up.signature (κ, tt) (q, tt) (m, (p, tt)) at) ∷ []) ∵ enter ! C Λ code.function (v ∷ w ∷ []) _ $
+        qed W (raw (onEntry 𝓤 H A look-up.signature (κ, tt) (q, tt) (m, (p, tt)) arguments) ∷ []) ∵ enter ! C Λ code.function (message-value ∷ place-value ∷ []) _ $
         alloc1 ! (λ l₀. alloc1 ! (λ l₁. alloc1 ! (λ l₂. alloc1 ! (λ l₃. alloc1 ! (λ l₄. alloc0 ! $ params1 ! $
-        pass1 ! (init ! 6 refl (shr-slice-lawful 𝓤 H A W (named 0) κ u8 .typed m (v ∷ []) is-m .0)) $ pass1 ! (init ! 4 refl wt) $ pass0 ! $
+        pass1 ! (init ! 6 refl (shr-slice-lawful 𝓤 H A W (named 0) κ u8 .typed m (message-value ∷ []) is-m .0)) $ pass1 ! (init ! 4 refl wt) $ pass0 ! $
         -- in hand: the locals 4 down to 0, of which 1 and 2 are filled; then what the caller handed over
-        move ! (10 ∷ []) $ use1 W (raw (Find 𝓤 H A mem run .pre to-find) ⊛ ‵ Own) goes-find $ split ! $
-        calls-at ! fm (Find 𝓤 H A mem run) known-find to-find (and-then ! (load ! (from ! (stop !)) (look ! 8 refl)) (and-then ! (load ! (from ! (stop !)) (look ! 6 refl)) (no-more !))) (λ uf.
-        use1 W (later (some (λ (f : Found). ((‵ (flft κ q) ⊛ ‵ ftrue) ⊛ ‵ (F.the-row .own f (uf ∷ []))) ⊛ raw (ensured 𝓤 H A find.ended (find.clauses 𝓤 H A mem run) (κ, tt) (m, (p, tt)) tt f)))) (id⊢ 𝓤 _) $ await ! tt $ pick ! (λ f.
-        split ! $ move ! (1 ∷ []) $ use1 W (raw (fact 𝓤 (Finds f))) (find-said f) $ heard ! (Finds f) (λ ef. split ! $ move ! (1 ∷ []) $
+        move ! (10 ∷ []) $ use1 W (raw (Find 𝓤 H A mem run .pre find-call) ⊛ ‵ Message-owned) find-called $ split ! $
+        calls-at ! fm (Find 𝓤 H A mem run) known-find find-call (and-then ! (load ! (from ! (stop !)) (look ! 8 refl)) (and-then ! (load ! (from ! (stop !)) (look ! 6 refl)) (no-more !))) (λ sort-value.
+        use1 W (later (some (λ (f : Found). ((‵ (flft κ q) ⊛ ‵ ftrue) ⊛ ‵ (F.the-row .own f (sort-value ∷ []))) ⊛ raw (ensured 𝓤 H A find.ended (find.clauses 𝓤 H A mem run) (κ, tt) (m, (p, tt)) tt f)))) (id⊢ 𝓤 _) $ await ! tt $ pick ! (λ f.
+        split ! $ move ! (1 ∷ []) $ use1 W (raw (fact 𝓤 (Found-right f))) (find-tells f) $ heard ! (Found-right f) (λ found-right. split ! $ move ! (1 ∷ []) $
         -- in hand: the answer f, the lifetime, the message; then the locals
-        peeks ! F.the-row (Is F.the-row) (shows 𝓤 H A F.the-row) f (uf ∷ []) (λ isf.
+        peeks ! F.the-row (Is F.the-row) (shows 𝓤 H A F.the-row) f (sort-value ∷ []) (λ isf.
         land ! (from ! (stop !)) (init ! 5 refl (EL.lawful F.the-type F′.the-laws 𝓤 H A W tt .typed f _ isf .0)) $
-        move ! (2 ∷ []) $ use1 W (‵ Own ⊛ ‵ Own) (shr-slice-copy 𝓤 H A W (named 0) κ u8 .twice m (v ∷ [])) $ split ! $
+        move ! (2 ∷ []) $ use1 W (‵ Message-owned ⊛ ‵ Message-owned) (shr-slice-copy 𝓤 H A W (named 0) κ u8 .twice m (message-value ∷ [])) $ split ! $
         -- in hand: the message twice, f, the lifetime
-        move ! (2 ∷ 0 ∷ 3 ∷ []) $ use3 W (raw (TextOf 𝓤 H A mem run .pre (to-text f uf))) (goes-text f uf (found-inside (now m) (placeOf p) f ef)) $
-        calls-at ! fm (TextOf 𝓤 H A mem run) known-text (to-text f uf) (and-then ! (load ! (from ! (stop !)) (look ! 8 refl)) (and-then ! (load ! (from ! (stop !)) (look ! 4 refl)) (no-more !))) (λ ut.
-        use1 W (later (some (λ (t : RefT (List ℕ)). ((‵ (flft κ q) ⊛ ‵ ftrue) ⊛ ‵ (ShrSlice (named 0) κ u8 .own t (ut ∷ []))) ⊛ raw (ensured 𝓤 H A text-of.ended (text-of.clauses 𝓤 H A mem run) (κ, tt) (m, (f, tt)) tt t)))) (id⊢ 𝓤 _) $ await ! tt $ pick ! (λ t.
-        split ! $ move ! (1 ∷ []) $ use1 W (raw (fact 𝓤 (Tells f t))) (text-said f t) $ heard ! (Tells f t) (λ et. split ! $ move ! (1 ∷ []) $
+        move ! (2 ∷ 0 ∷ 3 ∷ []) $ use3 W (raw (TextOf 𝓤 H A mem run .pre (text-call f sort-value))) (text-called f sort-value (found-inside (now m) (placeOf p) f found-right)) $
+        calls-at ! fm (TextOf 𝓤 H A mem run) known-text (text-call f sort-value) (and-then ! (load ! (from ! (stop !)) (look ! 8 refl)) (and-then ! (load ! (from ! (stop !)) (look ! 4 refl)) (no-more !))) (λ text-value.
+        use1 W (later (some (λ (t : RefT (List ℕ)). ((‵ (flft κ q) ⊛ ‵ ftrue) ⊛ ‵ (ShrSlice (named 0) κ u8 .own t (text-value ∷ []))) ⊛ raw (ensured 𝓤 H A text-of.ended (text-of.clauses 𝓤 H A mem run) (κ, tt) (m, (f, tt)) tt t)))) (id⊢ 𝓤 _) $ await ! tt $ pick ! (λ t.
+        split ! $ move ! (1 ∷ []) $ use1 W (raw (fact 𝓤 (Part-right f t))) (text-tells f t) $ heard ! (Part-right f t) (λ part-right. split ! $ move ! (1 ∷ []) $
         -- in hand: the part t, the lifetime, the message; then the locals
-        peeks ! (ShrSlice (named 0) κ u8) (Is (ShrSlice (named 0) κ u8)) (shows 𝓤 H A (ShrSlice (named 0) κ u8)) t (ut ∷ []) (λ ist.
+        peeks ! (ShrSlice (named 0) κ u8) (Is (ShrSlice (named 0) κ u8)) (shows 𝓤 H A (ShrSlice (named 0) κ u8)) t (text-value ∷ []) (λ ist.
         land ! (from ! (stop !)) (init ! 3 refl (shr-slice-lawful 𝓤 H A W erased κ u8 .typed t _ ist .0)) $
-        nothing ! $ move ! (1 ∷ 0 ∷ []) $ fjoin ! $ owned ! F.the-row (Is F.the-row) (EL.makes F.the-type F′.the-plain 𝓤 H A) f (uf ∷ []) isf $ fjoin ! $
-        use1 W (‵ (B (κ, tt) .own (made f t) (mach uf ut ∷ []))) (makes 𝓤 H A W (F.the-row ∷ ShrSlice (named 0) κ u8 ∷ []) (held f t) (uf ∷ [], (ut ∷ [], tt))) $
+        nothing ! $ move ! (1 ∷ 0 ∷ []) $ fjoin ! $ owned ! F.the-row (Is F.the-row) (EL.makes F.the-type F′.the-plain 𝓤 H A) f (sort-value ∷ []) isf $ fjoin ! $
+        use1 W (‵ (Answer-row (κ, tt) .own (answer f t) (answer-value sort-value text-value ∷ []))) (makes 𝓤 H A W (F.the-row ∷ ShrSlice (named 0) κ u8 ∷ []) (fields-owned f t) (sort-value ∷ [], (text-value ∷ [], tt))) $
         -- in hand: the struct, the lifetime, the message; then the locals
-        peeks ! (B (κ, tt)) (Is (B (κ, tt))) (shows 𝓤 H A (B (κ, tt))) (made f t) (mach uf ut ∷ []) (λ ism.
-        assigns ! (agg ! (and-then ! (load ! (from ! (stop !)) (look ! 5 refl)) (and-then ! (load ! (from ! (stop !)) (look ! 3 refl)) (no-more !)))) (from ! (stop !)) (init ! 11 refl (LL.lawful (T.the-type α) (T′.the-laws α) 𝓤 H A W .typed (made f t) _ ism .0)) $
+        peeks ! (Answer-row (κ, tt)) (Is (Answer-row (κ, tt))) (shows 𝓤 H A (Answer-row (κ, tt))) (answer f t) (answer-value sort-value text-value ∷ []) (λ ism.
+        assigns ! (agg ! (and-then ! (load ! (from ! (stop !)) (look ! 5 refl)) (and-then ! (load ! (from ! (stop !)) (look ! 3 refl)) (no-more !)))) (from ! (stop !)) (init ! 11 refl (LL.lawful (T.the-type α) (T′.the-laws α) 𝓤 H A W .typed (answer f t) _ ism .0)) $
         returns ! (look ! 11 refl) $ forget ! 3 refl $ forget ! 5 refl $ forget ! 7 refl $ forget ! 9 refl $ forget ! 11 refl $
         move ! (11 ∷ 12 ∷ []) $ free1 ! $ move ! (9 ∷ 10 ∷ []) $ free1 ! $ move ! (7 ∷ 8 ∷ []) $ free1 ! $ move ! (5 ∷ 6 ∷ []) $ free1 ! $ move ! (3 ∷ 4 ∷ []) $ free1 ! $ free0 ! $
-        by ! (exits is-p f t uf ut (record { sort = ef; text = et }))))))))))))))))
+        by ! (leaves is-p f t sort-value text-value (record { sort = found-right; text = part-right }))))))))))))))))
 
 module _ {M : Type 1} (𝓤 : URA M) (H : Heap 𝓤) (A : Atoms 𝓤) (W : Given 𝓤 H A) (mem : Memory → SProp 𝓤) (run : Routine → Fun 𝓤) where
   look-up-walks : (C : Calls 𝓤 H) (Λ : Loops 𝓤 H) → FmC 𝓤 H (W .laws) C → Triple 𝓤 (C #find) (Find 𝓤 H A mem run) → Triple 𝓤 (C #text-of) (TextOf 𝓤 H A mem run)
-      → Walks 𝓤 H A look-up.ended stayed (WpFn 𝓤 H C Λ code.function) (look-up.clauses 𝓤 H A mem run)
+      → Walks 𝓤 H A look-up.ended as-lent (WpFn 𝓤 H C Λ code.function) (look-up.clauses 𝓤 H A mem run)
   look-up-walks C Λ fm known-find known-text =
-      walked 𝓤 H A look-up.ended stayed (look-up.clauses 𝓤 H A mem run) (WpFn 𝓤 H C Λ code.function)
+      walked 𝓤 H A look-up.ended as-lent (look-up.clauses 𝓤 H A mem run) (WpFn 𝓤 H C Λ code.function)
       (λ κs. (slice-vals, (LL.vals P.the-type P′.the-laws, tt)))
       (λ κs. (shr-slice-tells (named 0) (κs .0) u8, (LL.tells P.the-type P′.the-laws, tt)))
       (λ κs qs bounds a g are. via 𝓤 _ (fst∗ 𝓤 _ (emp 𝓤))
@@ -201,7 +202,7 @@ look-up-meets : {M : Type 1} (𝓤 : URA M) (H : Heap 𝓤) (A : Atoms 𝓤) (W 
     → Triple 𝓤 (𝓣 .C #find) (Find 𝓤 H A mem run) → Triple 𝓤 (𝓣 .C #text-of) (TextOf 𝓤 H A mem run)
     → Meets 𝓤 H A look-up.signature (WpFn 𝓤 H (𝓣 .C) (𝓣 .Λ) code.function) (look-up.spec 𝓤 H A mem run)
 look-up-meets 𝓤 H A W mem run 𝓣 known-find known-text =
-    walk-meets 𝓤 H A look-up.ended stayed W
+    walk-meets 𝓤 H A look-up.ended as-lent W
     (goes-none-slice 𝓤 H A W 1 (0 ∷ []) tt (plain (λ _. u8)) yes, (goes-none 𝓤 H A W 1 (λ _. P.the-row) yes (λ κs x f. refl), tt))
     (look-up.clauses 𝓤 H A mem run) (WpFn 𝓤 H (𝓣 .C) (𝓣 .Λ) code.function) (WpFn-mono 𝓤 H (W .laws) 𝓣 code.function)
     (look-up-walks 𝓤 H A W mem run (𝓣 .C) (𝓣 .Λ) (fmOf 𝓤 H (W .laws) 𝓣) known-find known-text)

@@ -5,8 +5,8 @@ use mathlib.Core.Path.{_≡_, refl, _∙_}
 use lib.ListN.{length, drop, length-set, drop-of-length-le}
 use Rattle.text.specs.Decimal.{digitsBefore, decimal}
 use Rattle.text.proofs.Digits.{digits-done, digits-on, digits-none}
-use Rattle.text.proofs.decimal.spell.Statement.{statement}
-use Rattle.text.proofs.decimal.spell.Tie as tie
+use Rattle.text.proofs.writing.spell.Statement.{statement}
+use Rattle.text.proofs.writing.spell.Tie as tie
 
 abbrev Inv-loop : tie.InvT-loop
 Inv-loop digits₀ n left₀ i₀ digits left i =

@@ -1,5 +1,5 @@
--- What a look-up in one segment finds. Only inner functions promise it.
-use Prim.Native.Nat.{ℕ, _+_}
+-- What only inner functions promise and ask for.
+use Prim.Native.Nat.{ℕ, _+_, _≤_}
 use mathlib.Core.Bool.{false}
 use lib.ListN.{drop}
 use Rattle.text.specs.Bytes.{Text}
@@ -9,6 +9,8 @@ use Rattle.parts.specs.Descent.{part, partStart}
 use Rattle.parts.specs.Span.{stepsFrom}
 use Rattle.reader.specs.Place.{leafAt, leafStart}
 use Rattle.reader.specs.LookUp.{Found, shown}
+use Rattle.reader.specs.Part.{startOf, endOf}
+use Rattle.reader.specs.declared.Found as code-found
 
 -- the leaf of a segment that starts at k
 abbrev pub leafFound : Marks → Numbers → ℕ → Text → Found
@@ -20,3 +22,7 @@ leafFound q n k s =
 abbrev pub leafBehind : Marks → Numbers → ℕ → ℕ → Text → Found
 leafBehind q n k skip s =
     shown (k + (skip + partStart false (stepsFrom q n 4) (drop skip s))) (part false (stepsFrom q n 4) (drop skip s))
+
+-- the part that an answer names lies in so many bytes
+abbrev pub Inside : code-found.Found → ℕ → Type 0
+Inside f n = (startOf f ≤ endOf f) × (endOf f ≤ n)

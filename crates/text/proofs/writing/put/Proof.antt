@@ -7,8 +7,8 @@ use lib.ListN.{length, take, length-set}
 use lib.Seq.{take-all}
 use Rattle.text.specs.Puts.{Puts}
 use Rattle.text.proofs.Puts.{puts-none, puts-on}
-use Rattle.text.proofs.decimal.put.Statement.{statement}
-use Rattle.text.proofs.decimal.put.Tie as tie
+use Rattle.text.proofs.writing.put.Statement.{statement}
+use Rattle.text.proofs.writing.put.Tie as tie
 
 abbrev Inv-loop : tie.InvT-loop
 Inv-loop out₀ at t to₀ i₀ out to i =

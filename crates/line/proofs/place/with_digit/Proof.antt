@@ -1,14 +1,14 @@
--- `behind`: written out, though it could be found, so that a refusal names the fact that fails.
+-- `with_digit`: written out, though it could be found, so that a refusal names the fact that fails.
 use borrow.Author.Needs.{needs}
 use native.Mathlib.Omega.{arith}
-use Rattle.line.proofs.place.behind.Statement.{statement}
-use Rattle.line.proofs.place.behind.Tie as tie
+use Rattle.line.proofs.place.with_digit.Statement.{statement}
+use Rattle.line.proofs.place.with_digit.Tie as tie
 
 -- the number is the largest, or the sum fits
 returns-2 : tie.Need-returns-2
 returns-2 c = omega arith
 
-pub behind-spec : {M : Type 1} → statement M
-behind-spec =
+pub with-digit-spec : {M : Type 1} → statement M
+with-digit-spec =
     tie.close
     (tie.spec (λ c. search needs) (λ c. search needs) (λ c. search needs) (λ c. omega arith) (λ c. search needs) (λ c. search needs) returns-2)

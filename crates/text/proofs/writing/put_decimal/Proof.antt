@@ -1,8 +1,8 @@
 -- `put_decimal`: the part that is put is the number's digits.
 use Rattle.text.proofs.Digits.{digits-part}
 use borrow.Author.Needs.{needs}
-use Rattle.text.proofs.decimal.put_decimal.Statement.{statement}
-use Rattle.text.proofs.decimal.put_decimal.Tie as tie
+use Rattle.text.proofs.writing.put_decimal.Statement.{statement}
+use Rattle.text.proofs.writing.put_decimal.Tie as tie
 
 returns : tie.Need-returns
 returns c =
