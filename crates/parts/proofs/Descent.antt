@@ -41,6 +41,12 @@ within-length m from to l h = length-take-le (to - from) (drop from m) (omega (a
 pub within-stands : (m : Text) (from to : ℕ) → from ≤ to → to ≤ length m → Stands m from (within from to m)
 within-stands m from to l h = ap (λ (k : ℕ). take k (drop from m)) (within-length m from to l h)
 
+-- the bytes of a piece, told by its start and end
+pub within-piece : (t : Text) (sep n a e : ℕ) → a ≡ start sep n t → e ≡ a + length (piece n (split sep t)) → within a e t ≡ piece n (split sep t)
+within-piece t sep n a e s f =
+    let k : e - a ≡ length (piece n (split sep t)) = omega (arith, f) in
+    rw (k, s) (stands sep n t)
+
 -- ONE STEP of the descent, in the code's terms: the piece p of what stands from `from` up to `to`, found with that mark and number
 module _ (m : Text) (from to : ℕ) (l : from ≤ to) (h : to ≤ length m) (sep n : ℕ) (p : Span) (found : p ≡ span (start sep n (within from to m)) (piece n (split sep (within from to m)))) where
   abbrev t : Text

@@ -42,7 +42,7 @@ first-step : (b : ℕ) (t : Text) (ps : List Text) → Stands t 0 (getD ps 0 [])
 first-step b t [] h = refl
 first-step b t (p ∷ ps) h = ap {B = Text} (λ r. b ∷ r) h
 
-later-step : (b i : ℕ) (ps : List Text) → getD (front false b ps) (suc i) [] ≡ getD ps (suc i) []
+pub later-step : (b i : ℕ) (ps : List Text) → getD (front false b ps) (suc i) [] ≡ getD ps (suc i) []
 later-step b i [] = refl
 later-step b i (p ∷ ps) = refl
 

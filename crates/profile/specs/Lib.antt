@@ -5,3 +5,5 @@ pub mod Fields
 pub mod Rows
 pub mod Profile
 pub mod Numbers
+pub mod Order
+pub mod Inner

@@ -1,12 +1,14 @@
--- A table's rows as the machine has them: eleven numbers a row.
-use Prim.Native.Nat.{ℕ, zero, suc, _+_, _*_, _-_, _/_}
-use mathlib.Core.Bool.{Bool, true, _&&_}
-use mathlib.Core.List.{List, [], _∷_}
-use lib.ListN.{length, getD, drop}
+-- A table as the machine has it: an index, then eleven numbers a row. The rows of the segments stand under the numbers 1 to 7; under 8 to 15
+-- stand the leaves of the types that a field may name, in the order of OBX-2's list, and under 16 those where it names none.
+use Prim.Native.Nat.{ℕ, zero, suc, _-_, _/_}
+use mathlib.Core.Path.{_≡_}
+use mathlib.Core.List.{List, [], _∷_, _++_, map}
+use lib.ListN.{getD, drop}
 use lib.Dec.{eqb, ltb}
-use Rattle.text.specs.Bytes.{Text, pick, bytes}
-use Rattle.profile.specs.Table.{Simple, SI, NM, DTM, TM, ST, TX, FT, ID, IS, Codes, any, only, Listed, leaf, named-by, Usage, O, R, C, Row}
+use Rattle.text.specs.Bytes.{Text, pick, bytes, same}
+use Rattle.profile.specs.Table.{Simple, SI, NM, DTM, TM, ST, TX, FT, ID, IS, Codes, any, only, Leaf, Listed, leaf, named-by, Usage, O, R, C, Row, Type-leaves, Table}
 use Rattle.profile.specs.Lists.{message-types, events, processing-ids, versions, sexes, yes-no, order-controls, result-statuses, value-types, observation-statuses}
+use Rattle.profile.specs.Profile.{succession, ends}
 
 -- segments and lists by number, from 1
 abbrev pub segmentNames : List Text
@@ -27,10 +29,6 @@ codeLists =
     ∷ observation-statuses
     ∷ []
 
-abbrev pub segmentOf : ℕ → Text
-segmentOf zero = []
-segmentOf (suc i) = getD segmentNames i []
-
 abbrev pub codesOf : ℕ → Codes
 codesOf zero = any
 codesOf (suc i) = only (getD codeLists i [])
@@ -45,54 +43,88 @@ simpleOf n =
     pick (eqb n 1) SI (pick (eqb n 2) NM (pick (eqb n 3) DTM (pick (eqb n 4) TM (pick (eqb n 5) ST
     (pick (eqb n 6) TX (pick (eqb n 7) FT (pick (eqb n 8) ID IS)))))))
 
--- type 10 and a field's number: the type that this field names
-abbrev pub listedOf : List ℕ → Listed
-listedOf t =
-    pick (ltb (getD t 6 0) 10)
-    (leaf
-    (record {
-      component = getD t 2 0;
-      subcomponent = getD t 3 0;
-      type = simpleOf (getD t 6 0);
-      star = eqb (getD t 7 0) 1;
-      limit = getD t 8 0;
-      list = codesOf (getD t 9 0);
-      reason = getD t 10 0;
-    }))
-    (named-by (getD t 6 0 - 10))
-
--- the row that the first eleven numbers are
-abbrev pub rowOf : List ℕ → Row
-rowOf t =
+-- the row that the first eleven of these numbers are, and the leaf that it lists
+abbrev pub leafOf : List ℕ → Leaf
+leafOf r =
     record {
-      segment = segmentOf (getD t 0 0);
-      field = getD t 1 0;
-      usage = usageOf (getD t 4 0);
-      repetitions = getD t 5 0;
-      lists = listedOf t;
+      component = getD r 2 0;
+      subcomponent = getD r 3 0;
+      type = simpleOf (getD r 6 0);
+      star = eqb (getD r 7 0) 1;
+      limit = getD r 8 0;
+      list = codesOf (getD r 9 0);
+      reason = getD r 10 0;
     }
 
-unfoldable pub rowsFrom : ℕ → List ℕ → List Row
+-- type 10 and a field's number: the type that this field names
+abbrev pub listedOf : List ℕ → Listed
+listedOf r = pick (ltb (getD r 6 0) 10) (leaf (leafOf r)) (named-by (getD r 6 0 - 10))
+
+abbrev pub rowOf : Text → List ℕ → Row
+rowOf n r =
+    record {
+      segment = n;
+      field = getD r 1 0;
+      usage = usageOf (getD r 4 0);
+      repetitions = getD r 5 0;
+      lists = listedOf r;
+    }
+
+-- k rows: the numbers from each of them on
+unfoldable pub rowsFrom : ℕ → List ℕ → List (List ℕ)
 rowsFrom zero t = []
-rowsFrom (suc k) t = rowOf t ∷ rowsFrom k (drop 11 t)
+rowsFrom (suc k) t = t ∷ rowsFrom k (drop 11 t)
 
--- THE ROWS that a list of numbers is
-abbrev pub rowsOf : List ℕ → List Row
-rowsOf t = rowsFrom (length t / 11) t
+-- the rows from one place of a table up to another
+abbrev pub rowsWithin : ℕ → ℕ → List ℕ → List (List ℕ)
+rowsWithin at end t = rowsFrom ((end - at) / 11) (drop at t)
 
--- a row's place as one number: segment, field, component, subcomponent
-abbrev pub placeOf : List ℕ → ℕ
-placeOf t = ((getD t 0 0 * 256 + getD t 1 0) * 256 + getD t 2 0) * 256 + getD t 3 0
+-- THE INDEX: where the rows under a number begin; the next number's beginning is their end
+abbrev pub begin : List ℕ → ℕ → ℕ
+begin t k = getD t k 0
 
-unfoldable pub placesFrom : ℕ → List ℕ → List ℕ
-placesFrom zero t = []
-placesFrom (suc k) t = placeOf t ∷ placesFrom k (drop 11 t)
+abbrev pub under : ℕ → List ℕ → List (List ℕ)
+under k t = rowsWithin (begin t k) (begin t (suc k)) t
 
-abbrev pub placesOf : List ℕ → List ℕ
-placesOf t = placesFrom (length t / 11) t
+abbrev pub leavesUnder : ℕ → List ℕ → List Leaf
+leavesUnder k t = map leafOf (under k t)
 
--- each number is above the one before it
-unfoldable pub rising : List ℕ → Bool
-rising [] = true
-rising (x ∷ []) = true
-rising (x ∷ y ∷ l) = ltb x y && rising (y ∷ l)
+-- the number of a text in a list, counted from k; another one where it is none of them
+unfoldable pub numberIn : ℕ → ℕ → List Text → Text → ℕ
+numberIn none k [] t = none
+numberIn none k (n ∷ ns) t = pick (same n t) k (numberIn none (suc k) ns t)
+
+abbrev pub segmentNumber : Text → ℕ
+segmentNumber n = numberIn 0 1 segmentNames n
+
+abbrev pub typeNumber : Text → ℕ
+typeNumber t = numberIn 16 8 value-types t
+
+-- types with their leaves, the first of them under number k
+unfoldable pub typesFrom : ℕ → List Text → List ℕ → List Type-leaves
+typesFrom k [] t = []
+typesFrom k (n ∷ ns) t = record { type = n; leaves = leavesUnder k t } ∷ typesFrom (suc k) ns t
+
+-- segments with their rows, the first of them under number k
+unfoldable pub segmentsFrom : ℕ → List Text → List ℕ → List Row
+segmentsFrom k [] t = []
+segmentsFrom k (n ∷ ns) t = map (rowOf n) (under k t) ++ segmentsFrom (suc k) ns t
+
+-- THE TABLE that a list of numbers is: its rows and types, and 01's succession and ends
+unfoldable pub tableOf : List ℕ → Table
+tableOf t =
+    record {
+      rows = segmentsFrom 1 segmentNames t;
+      types = typesFrom 8 value-types t;
+      otherwise = leavesUnder 16 t;
+      succession = succession;
+      ends = ends;
+    }
+
+-- the numbers are that table
+pub record Tells (t : List ℕ) (T : Table) : Type 0 where
+  pub rows : tableOf t .rows ≡ T .rows
+  pub types : tableOf t .types ≡ T .types
+  pub otherwise : tableOf t .otherwise ≡ T .otherwise
+  pub succession : tableOf t .succession ≡ T .succession
+  pub ends : tableOf t .ends ≡ T .ends

@@ -1,7 +1,7 @@
 -- The depot's own table: the rows, the leaves of the types that OBX-2 may name, the succession and the ends.
 use Prim.Native.String as string
 use mathlib.Core.List.{List, [], _∷_, map}
-use Rattle.text.specs.Bytes.{bytes}
+use Rattle.text.specs.Bytes.{Text, bytes}
 use Rattle.profile.specs.Table.{NM, DTM, TM, ST, TX, FT, Leaf, Type-leaves, Succession, Table}
 use Rattle.profile.specs.Leaves.{simple, CE, SN}
 use Rattle.profile.specs.Rows.{rows}
@@ -37,6 +37,9 @@ succession =
     ∷ then "NTE" ("NTE" ∷ "OBX" ∷ "ORC" ∷ "OBR" ∷ [])
     ∷ []
 
+abbrev pub ends : List Text
+ends = map bytes ("OBR" ∷ "OBX" ∷ "NTE" ∷ [])
+
 -- THE PROFILE
 unfoldable pub profile01 : Table
 profile01 =
@@ -45,5 +48,5 @@ profile01 =
       types = types;
       otherwise = simple ST;
       succession = succession;
-      ends = map bytes ("OBR" ∷ "OBX" ∷ "NTE" ∷ []);
+      ends = ends;
     }

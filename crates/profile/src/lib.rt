@@ -1,17 +1,25 @@
-// The depot's own table, leaf by leaf.
-ghost use mathlib.Core.Path.{_≡_};
-ghost use mathlib.Core.Bool.{true};
-ghost use Rattle.profile.specs.Numbers.{rowsOf, placesOf, rising};
+// The depot's own table, leaf by leaf, and the reading of a lent one.
+ghost use Rattle.profile.specs.Numbers.{Tells};
+ghost use Rattle.profile.specs.Order.{Sound};
 ghost use Rattle.profile.specs.Profile.{profile01};
 
+mod codes;
+mod rows;
 mod table;
 
+pub use codes::is_in_list;
+pub use codes::is_of_type;
+pub use codes::segment_number;
+pub use rows::Rows;
+pub use rows::field_end;
+pub use rows::rows_under;
+pub use rows::type_rows;
 use table::PROFILE;
 
 // The table, to be lent to whatever reads one: an entry takes it once.
-pub fn profile() -> [u16; 1023]
-    ensures rows { λ r. ⌜ rowsOf r ≡ profile01 .rows ⌝ }
-    ensures order { λ r. ⌜ rising (placesOf r) ≡ true ⌝ }
+pub fn profile() -> [u16; 1228]
+    ensures rows { λ r. ⌜ Tells r profile01 ⌝ }
+    ensures rule { λ r. ⌜ Sound r ⌝ }
 {
     PROFILE
 }

@@ -1,14 +1,19 @@
--- The machine's numbers are the rows of 01's profile, and their places rise: by computation over the whole table.
+-- The machine's numbers are 01's profile and keep the table's rule: by computation over the whole table.
 use mathlib.Core.Path.{refl}
-use Rattle.profile.specs.Numbers.{rowsFrom, placesFrom, rising}
+use Rattle.text.specs.Bytes.{every}
+use Rattle.profile.specs.Numbers.{rowsFrom, typesFrom, segmentsFrom, tableOf}
+use Rattle.profile.specs.Order.{rising, alone}
 use Rattle.profile.specs.Profile.{profile01}
 use Rattle.profile.specs.Rows.{rows}
 use Rattle.profile.proofs.profile.Statement.{statement}
 use Rattle.profile.proofs.profile.Tie as tie
 
 returns : tie.Need-returns
-unfolding rowsFrom profile01 rows rising placesFrom
-returns c = (refl, refl)
+unfolding rowsFrom typesFrom segmentsFrom tableOf profile01 rows rising alone every
+returns c = (
+  record { rows = refl; types = refl; otherwise = refl; succession = refl; ends = refl },
+  record { rows = record { order = refl; proper = refl; lone = refl }; index = refl },
+)
 
 pub profile-spec : {M : Type 1} → statement M
 profile-spec = tie.close (tie.spec returns)
