@@ -61,7 +61,7 @@ piece-nil sep zero = refl
 piece-nil sep (suc zero) = refl
 piece-nil sep (suc (suc i)) = refl
 
-part-nil : (ss : List Step) → part false ss [] ≡ []
+pub part-nil : (ss : List Step) → part false ss [] ≡ []
 unfolding part
 part-nil [] = refl
 part-nil (s ∷ ss) = rw (piece-nil (s .mark) (s .number)) (part-nil ss)

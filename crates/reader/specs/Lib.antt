@@ -6,3 +6,5 @@ pub mod Told
 pub mod Part
 pub mod Promise
 pub mod Inner
+pub mod Judged
+pub mod Onward

@@ -1,8 +1,18 @@
 // Places, look-up and judging.
+mod conditions;
+mod field;
+mod judging;
 mod leaves;
 mod places;
+mod repetition;
+mod rule;
 mod search;
+mod seen;
+mod segment;
+mod walk;
 
+pub use conditions::condition;
+pub use judging::judge;
 pub use places::is_place;
 pub use search::LookedUp;
 pub use search::find;

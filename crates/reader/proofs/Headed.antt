@@ -1,0 +1,127 @@
+-- A message with a good frame begins with its header; the walk from there is the verdict.
+use mathlib.Core.Path.{_≡_, refl, sym, ap, _∙_}
+use Prim.Native.Nat.{ℕ}
+use native.Mathlib.Omega.{arith}
+use mathlib.Core.Bool.{Bool, true, false}
+use mathlib.Core.List.{List, [], _∷_, _++_, append-nil}
+use lib.ListN.{getD, take, drop}
+use Rattle.text.specs.Bytes.{Text, pick, bytes, cr, some, keep, same, within}
+use Rattle.text.specs.Answer.{Answer, refused, given, Test, first, passes}
+use Rattle.text.specs.Marks.{marksOf}
+use Rattle.text.specs.declared.refusal.Refusal.{Refusal}
+use Rattle.text.proofs.Tests.{same-true}
+use Rattle.text.proofs.Answer.{first-refused, first-given}
+use Rattle.parts.specs.Split.{closed}
+use Rattle.frame.specs.Segments.{segments, name}
+use Rattle.frame.specs.Frame.{header, frameTests, framed}
+use Rattle.frame.specs.Told.{framingOf}
+use Rattle.frame.specs.declared.checks.Framing.{Framing}
+use Rattle.frame.specs.declared.checks.Framing.the-variants as framing
+use Rattle.frame.proofs.Frame.{Framed, framed-tests, closed-segments}
+use Rattle.profile.specs.Table.{Table, isListed, mayFollow}
+use Rattle.profile.specs.Numbers.{Tells, tableOf, numberIn, segmentNumber}
+use Rattle.profile.specs.Order.{Sound}
+use Rattle.reader.specs.declared.Verdict as code
+use Rattle.reader.specs.declared.walk.Halt.{Halt}
+use Rattle.reader.specs.View.{listedSegments, view}
+use Rattle.reader.specs.Fault.{Verdict, checks, verdict, judge}
+use Rattle.reader.specs.Told.{verdictOf}
+use Rattle.reader.specs.Judged.{Here, Next, haltVerdict, Counts, Walks}
+use Rattle.profile.proofs.Rules.{tells-same, listed-number}
+
+-- segments that together begin with MSH: the first of them does
+module _ (r : Text) where
+  headed-first : (ss : List Text) → closed cr ss ≡ bytes "MSH" ++ r → (ss ≡ getD ss 0 [] ∷ drop 1 ss) × (name (getD ss 0 []) ≡ bytes "MSH")
+  unfolding closed
+  headed-first [] e = absurd (let z : _≡_ {A = ℕ} 0 1 = cc in omega arith)
+  headed-first ([] ∷ ss) e = absurd (let z : _≡_ {A = ℕ} cr 77 = cc in omega arith)
+  headed-first ((a ∷ []) ∷ ss) e = absurd (let z : _≡_ {A = ℕ} cr 83 = cc in omega arith)
+  headed-first ((a ∷ b ∷ []) ∷ ss) e = absurd (let z : _≡_ {A = ℕ} cr 72 = cc in omega arith)
+  headed-first ((a ∷ b ∷ c ∷ s) ∷ ss) e = (refl, cc)
+
+headed-text : (m : Text) → take 9 m ≡ header (marksOf m) → m ≡ bytes "MSH" ++ drop 3 m
+headed-text [] e = absurd (let z : _≡_ {A = ℕ} 0 1 = cc in omega arith)
+headed-text (a ∷ []) e = absurd (let z : _≡_ {A = ℕ} 0 1 = cc in omega arith)
+headed-text (a ∷ b ∷ []) e = absurd (let z : _≡_ {A = ℕ} 0 1 = cc in omega arith)
+headed-text (a ∷ b ∷ c ∷ m) e = cc
+
+module _ (t : List ℕ) (m : Text) (sound : Sound t) (good : framed m ≡ true) where
+  abbrev T : Table
+  T = tableOf t
+
+  tests : Framed m
+  tests = framed-tests m good
+
+  opening : (segments m ≡ getD (segments m) 0 [] ∷ drop 1 (segments m)) × (name (getD (segments m) 0 []) ≡ bytes "MSH")
+  opening =
+      headed-first (drop 3 m) (segments m)
+      (closed-segments m (tests .closed-by-CR) ∙ headed-text m (same-true (take 9 m) (header (marksOf m)) (tests .headed)))
+
+  header-listed : isListed T (bytes "MSH") ≡ true
+  unfolding numberIn same
+  header-listed = listed-number t sound (bytes "MSH")
+
+  listed-first : listedSegments T m ≡ getD (segments m) 0 [] ∷ keep (λ s. isListed T (name s)) (drop 1 (segments m))
+  unfolding keep
+  listed-first =
+      ap (keep (λ s. isListed T (name s))) (opening .0) ∙ rw (opening .1, header-listed)
+
+  -- there is one
+  pub headed-some : listedSegments T m ≡ [] → ⊥
+  headed-some e = let f = listed-first in let z : _≡_ {A = ℕ} 0 1 = cc in omega arith
+
+  module _ (start end k : ℕ) (next : Next T m 0 start end k) where
+    named-header : name (within start end m) ≡ bytes "MSH"
+    named-header =
+        let f = listed-first in
+        let e : within start end m ≡ getD (segments m) 0 [] = cc (next .first) in
+        ap name e ∙ opening .1
+
+    -- it is the header
+    pub headed-here : Here m start end 1
+    unfolding numberIn same
+    headed-here =
+        record {
+          opens = next .here .opens;
+          ends = next .here .ends;
+          high = next .here .high;
+          number = (ap segmentNumber named-header, omega arith);
+        }
+
+    header-first : mayFollow T [] (name (within start end m)) ≡ true
+    unfolding tableOf some same
+    header-first = rw named-header
+
+    counts-none : Counts m start []
+    unfolding keep
+    counts-none n l = omega (arith, next .counts n l)
+
+    pub headed-walk : (h : Halt) → Walks T m start end h → haltVerdict T m h ≡ verdict T m
+    unfolding verdict checks view
+    headed-walk h w = w .same [] [] counts-none header-first ∙ rw (next .first)
+
+-- ---- the frame's tests, then the verdict
+
+passed-step : (b : Bool) (x : Refusal) (s : Answer (Unit {0})) (p : Bool) → (given tt ≡ s → p ≡ true) → given tt ≡ pick b (refused x) s → pick b false p ≡ true
+passed-step true x s p h e = absurd (let z : _≡_ {A = ℕ} 0 1 = cc in omega arith)
+passed-step false x s p h e = h e
+
+given-passes : (ts : List Test) → given (tt {0}) ≡ first ts (tt {0}) → passes ts ≡ true
+unfolding first passes
+given-passes [] e = refl
+given-passes (t ∷ ts) e = passed-step (t .applies) (t .refusal) (first ts tt) (passes ts) (given-passes ts) e
+
+module _ (m : Text) (a : Framing) (told : framingOf a ≡ first (frameTests m) (tt {0})) where
+  pub judged-frame : (T : Table) (r : Refusal) → a ≡ framing.Refused r → refused r ≡ judge T m
+  unfolding judge
+  judged-frame T r e =
+      first-refused (frameTests m) [] (verdict T m) r (ap framingOf (sym e) ∙ told)
+      ∙ ap (λ (ts : List Test). first ts (verdict T m)) (append-nil (frameTests m))
+
+  pub judged-framed : a ≡ framing.Framed → framed m ≡ true
+  judged-framed e = given-passes (frameTests m) (ap framingOf (sym e) ∙ told)
+
+  pub judged-on : (t : List ℕ) (T : Table) (v : code.Verdict) → Tells t T → a ≡ framing.Framed → verdictOf v ≡ given (verdict (tableOf t) m) → verdictOf v ≡ judge T m
+  unfolding judge
+  judged-on t T v tells e w =
+      w ∙ ap (λ (U : Table). given (verdict U m)) (tells-same t T tells) ∙ sym (first-given (frameTests m) (verdict T m) (judged-framed e))

@@ -1,0 +1,39 @@
+// A leaf's own rule. Inner: the callers hold that a row stands there.
+ghost use mathlib.Core.Path.{_≡_};
+ghost use Prim.Native.Nat.{_+_, _≤_};
+ghost use lib.ListN.{length, drop, getD};
+ghost use Rattle.profile.specs.Numbers.{leafOf};
+ghost use Rattle.reader.specs.Place.{Place};
+ghost use Rattle.reader.specs.Fault.{leafChecks, firstBroken};
+ghost use Rattle.reader.specs.Judged.{told};
+use profile::is_in_list;
+use profile::is_of_type;
+use text::Marks;
+use text::bad_escape;
+
+// The reason of the first check that a leaf's text breaks, 0 where it breaks none. The row of the leaf begins at `at`.
+pub fn leaf_reason(s: &[u8], q: Marks, t: &[u16], at: usize) -> u8
+    requires { ⌜ at + 11 ≤ length (now t) ⌝ }
+    requires { ⌜ (1 ≤ getD (now t) (at + 10) 0) × (getD (now t) (at + 10) 0 ≤ 12) ⌝ }
+    ensures { λ r. ⌜ ((p : Place) → told p r ≡ firstBroken (leafChecks q p (leafOf (drop at (now (t .entry)))) (now (s .entry)))) ⌝ }
+{
+    if s.len() == 0 {
+        if t[at + 7] == 1 {
+            return 3;
+        }
+        return 0;
+    }
+    if (t[at + 8] as usize) < s.len() {
+        return 5;
+    }
+    if bad_escape(q, s) {
+        return 6;
+    }
+    if !is_of_type(t[at + 6], s) {
+        return 7;
+    }
+    if !is_in_list(t[at + 9], s) {
+        return t[at + 10] as u8;
+    }
+    0
+}
