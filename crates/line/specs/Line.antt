@@ -1,6 +1,6 @@
 -- What the desk's programs print, one line an answer.
 use Prim.Native.Nat.{ℕ}
-use mathlib.Core.List.{[], _∷_, _++_}
+use mathlib.Core.List.{List, [], _∷_, _++_}
 use Rattle.text.specs.Bytes.{Text, bytes, byte}
 use Rattle.text.specs.Decimal.{decimal}
 use Rattle.text.specs.Answer.{Answer, refused, given, numberOf}
@@ -13,19 +13,20 @@ use Rattle.reader.specs.Fault.{Verdict, accepted, fault, condition}
 abbrev pub refusedLine : Refusal → Text
 refusedLine r = bytes "refused " ++ decimal (numberOf r)
 
-unfoldable pub faultLine : Place → ℕ → Text
-faultLine p n =
-    join (byte " ")
-    (bytes "fault"
-    ∷ p .name
+-- a place's name and its five numbers
+abbrev pub placeWords : Place → List Text
+placeWords p =
+    p .name
     ∷ decimal (p .occurrence)
     ∷ decimal (p .field)
     ∷ decimal (p .repetition)
     ∷ decimal (p .component)
     ∷ decimal (p .subcomponent)
-    ∷ decimal (condition n)
-    ∷ decimal n
-    ∷ [])
+    ∷ []
+
+unfoldable pub faultLine : Place → ℕ → Text
+faultLine p n =
+    join (byte " ") (bytes "fault" ∷ placeWords p ++ decimal (condition n) ∷ decimal n ∷ [])
 
 -- JUDGING: accepted; refused and the number; or fault, the place's name and five numbers, condition, reason
 abbrev pub deskLine : Answer Verdict → Text

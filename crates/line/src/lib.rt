@@ -1,15 +1,24 @@
 // The lines that the desk's programs print, and the places that they are asked for.
-ghost use Prim.Native.Nat.{_≤_};
+ghost use mathlib.Core.Path.{_≡_};
+ghost use Prim.Native.Nat.{_+_, _≤_};
+ghost use mathlib.Core.List.{_∷_};
 ghost use lib.ListN.{length};
+ghost use Rattle.text.specs.Bytes.{byte};
+ghost use Rattle.text.specs.Decimal.{decimal};
 ghost use Rattle.text.specs.Puts.{Puts};
-ghost use Rattle.reader.specs.Told.{foundOf};
-ghost use Rattle.line.specs.Line.{refusedLine, textLine, lookLine, ended};
+ghost use Rattle.parts.specs.Split.{led};
+ghost use Rattle.reader.specs.Told.{placeOf, foundOf, verdictOf};
+ghost use Rattle.line.specs.Line.{refusedLine, placeWords, faultLine, deskLine, textLine, lookLine, ended};
 
 mod place;
 
 pub use place::Asked;
 pub use place::asked_number;
+use reader::Fault;
 use reader::Found;
+use reader::Place;
+use reader::Verdict;
+use reader::condition;
 use text::Refusal;
 use text::number;
 use text::put;
@@ -44,5 +53,53 @@ pub fn look_line(f: Found, out: &mut [u8]) -> usize
         Found::Refused(r) => refused_line(r, out),
         Found::Empty => put(out, 0, b"empty\n"),
         Found::Text { start, end } => text_line(start, end, out),
+    }
+}
+
+// A blank and a number behind it.
+fn put_number(out: &mut [u8], at: usize, n: u64) -> usize
+    requires { ⌜ at + 21 ≤ length (now out) ⌝ }
+    ensures { λ r. ⌜ Puts (now (out .entry)) at (byte " " ∷ decimal n) (now (out .exit)) r ⌝ }
+    ensures { λ r. ⌜ (r ≤ at + 21) × (length (now (out .exit)) ≡ length (now (out .entry))) ⌝ }
+{
+    let a = put(out, at, b" ");
+    put_decimal(out, a, n)
+}
+
+// A place's name and five numbers, a blank before each.
+fn put_place(out: &mut [u8], at: usize, p: Place) -> usize
+    requires { ⌜ at + 109 ≤ length (now out) ⌝ }
+    ensures { λ r. ⌜ Puts (now (out .entry)) at (led (byte " ") (placeWords (placeOf p))) (now (out .exit)) r ⌝ }
+    ensures { λ r. ⌜ (r ≤ at + 109) × (length (now (out .exit)) ≡ length (now (out .entry))) ⌝ }
+{
+    let name = [b' ', p.first, p.second, p.third];
+    let a = put(out, at, &name);
+    let b = put_number(out, a, p.occurrence);
+    let c = put_number(out, b, p.field);
+    let d = put_number(out, c, p.repetition);
+    let e = put_number(out, d, p.component);
+    put_number(out, e, p.subcomponent)
+}
+
+fn fault_line(f: Fault, out: &mut [u8]) -> usize
+    requires { ⌜ 192 ≤ length (now out) ⌝ }
+    ensures { λ k. ⌜ Puts (now (out .entry)) 0 (ended (faultLine (placeOf (f .place)) (f .reason))) (now (out .exit)) k ⌝ }
+{
+    let a = put(out, 0, b"fault");
+    let b = put_place(out, a, f.place);
+    let c = put_number(out, b, condition(f.reason) as u64);
+    let d = put_number(out, c, f.reason as u64);
+    put(out, d, b"\n")
+}
+
+// The line that tells how a message is judged. Inner: the program lends 192 bytes, and no such line is longer than 123.
+pub fn desk_line(v: Verdict, out: &mut [u8]) -> usize
+    requires { ⌜ 192 ≤ length (now out) ⌝ }
+    ensures { λ r. ⌜ Puts (now (out .entry)) 0 (ended (deskLine (verdictOf v))) (now (out .exit)) r ⌝ }
+{
+    match v {
+        Verdict::Refused(r) => refused_line(r, out),
+        Verdict::Accepted => put(out, 0, b"accepted\n"),
+        Verdict::Fault(f) => fault_line(f, out),
     }
 }
