@@ -182,24 +182,6 @@ module _ (n : Text) where
   pub is-msh : segmentNumber n ≡ 1 → n ≡ bytes "MSH"
   is-msh e = named-number 1 e (omega arith) .1
 
-  pub is-pid : segmentNumber n ≡ 2 → n ≡ bytes "PID"
-  is-pid e = named-number 2 e (omega arith) .1
-
-  pub is-nk1 : segmentNumber n ≡ 3 → n ≡ bytes "NK1"
-  is-nk1 e = named-number 3 e (omega arith) .1
-
-  pub is-orc : segmentNumber n ≡ 4 → n ≡ bytes "ORC"
-  is-orc e = named-number 4 e (omega arith) .1
-
-  pub is-obr : segmentNumber n ≡ 5 → n ≡ bytes "OBR"
-  is-obr e = named-number 5 e (omega arith) .1
-
-  pub is-obx : segmentNumber n ≡ 6 → n ≡ bytes "OBX"
-  is-obx e = named-number 6 e (omega arith) .1
-
-  pub is-nte : segmentNumber n ≡ 7 → n ≡ bytes "NTE"
-  is-nte e = named-number 7 e (omega arith) .1
-
   -- a name has three letters
   not-three : (k : ℕ) (ns : List Text) → All (λ (x : Text). length x ≡ 3) ns → (length n ≡ 3 → ⊥) → numberIn 0 k ns n ≡ 0
   unfolding numberIn

@@ -142,9 +142,6 @@ module _ (t : List ℕ) (s : Sound t) (k : ℕ) (low : 1 ≤ k) (high : k ≤ 16
       ordered-left (under k t) (rowsFrom n (drop ((e - b) / 11 * 11) (drop b t)))
       (subst Ordered (rows-sooner t b e (length t) (w .inside)) later)
 
-  pub under-numbered : areOf k (under k t) ≡ true
-  under-numbered = under-whole .numbered
-
   pub under-inside : k + 1 < length t
   under-inside =
       let w = under-whole in

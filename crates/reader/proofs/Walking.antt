@@ -18,7 +18,7 @@ use Rattle.profile.specs.Table.{Table, mayFollow, mayEnd}
 use Rattle.profile.specs.Numbers.{segmentNames, segmentNumber, tableOf}
 use Rattle.profile.specs.Order.{Sound}
 use Rattle.reader.specs.declared.segment.Finding.{Finding}
-use Rattle.reader.specs.declared.seen.Listed.{Listed}
+use Rattle.reader.specs.declared.listing.Listed.{Listed}
 use Rattle.reader.specs.declared.walk.Halt.{Halt}
 use Rattle.reader.specs.declared.walk.Onward.{Onward}
 use Rattle.reader.specs.declared.walk.Onward.the-variants as onward

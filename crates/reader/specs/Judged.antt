@@ -16,8 +16,8 @@ use Rattle.profile.specs.Inner.{ruleAt}
 use Rattle.reader.specs.declared.repetition.ReadRepetition.{ReadRepetition}
 use Rattle.reader.specs.declared.field.ReadField.{ReadField}
 use Rattle.reader.specs.declared.segment.Finding.{Finding}
-use Rattle.reader.specs.declared.seen.Listed.{Listed}
-use Rattle.reader.specs.declared.seen.Listed.the-variants as listed
+use Rattle.reader.specs.declared.listing.Listed.{Listed}
+use Rattle.reader.specs.declared.listing.Listed.the-variants as listed
 use Rattle.reader.specs.declared.walk.Halt.{Halt}
 use Rattle.reader.specs.Place.{Place, place}
 use Rattle.reader.specs.View.{Repetition, entriesOf, isFilled, filledFrom, namedIn, fieldSeen, segmentSeen, listedSegments}

@@ -15,9 +15,9 @@ ghost use Rattle.reader.specs.Judged.{nameAt, Here, haltVerdict, numberA
 use crate::Fault;
 use crate::Place;
 use crate::Verdict;
-use crate::seen::Listed;
-use crate::seen::next_listed;
-use crate::seen::occurrence_at;
+use crate::listing::Listed;
+use crate::listing::next_listed;
+use crate::listing::occurrence_at;
 use crate::segment::Finding;
 use crate::segment::read_segment;
 use crate::walk::Halt;

@@ -3,11 +3,11 @@ mod conditions;
 mod field;
 mod judging;
 mod leaves;
+mod listing;
 mod places;
 mod repetition;
 mod rule;
 mod search;
-mod seen;
 mod segment;
 mod walk;
 

@@ -9,8 +9,8 @@ ghost use Rattle.profile.specs.Numbers.{tableOf};
 ghost use Rattle.profile.specs.Order.{Sound};
 ghost use Rattle.reader.specs.Judged.{Here, Walks};
 ghost use Rattle.reader.specs.Onward.{OnwardIs};
-use crate::seen::Listed;
-use crate::seen::next_listed;
+use crate::listing::Listed;
+use crate::listing::next_listed;
 use crate::segment::read_segment;
 use text::marks_of;
 

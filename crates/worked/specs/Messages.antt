@@ -40,9 +40,6 @@ withMSH s = message (s ∷ pid ∷ obr ∷ obx ∷ [])
 abbrev pub withPID : string.String → Text
 withPID s = message (msh ∷ s ∷ obr ∷ obx ∷ [])
 
-abbrev pub withOBR : string.String → Text
-withOBR s = message (msh ∷ pid ∷ s ∷ obx ∷ [])
-
 abbrev pub withOBX : string.String → Text
 withOBX s = message (msh ∷ pid ∷ obr ∷ s ∷ [])
 

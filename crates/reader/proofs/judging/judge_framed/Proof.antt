@@ -3,7 +3,7 @@ use borrow.Author.Needs.{needs}
 use mathlib.Core.Path.{refl, ap, _∙_}
 use Rattle.text.specs.Answer.{given}
 use Rattle.profile.specs.Numbers.{tableOf}
-use Rattle.reader.specs.declared.seen.Listed.the-variants.{None, Segment}
+use Rattle.reader.specs.declared.listing.Listed.the-variants.{None, Segment}
 use Rattle.reader.specs.Judged.{Next}
 use Rattle.reader.proofs.Walking.{next-as}
 use Rattle.reader.proofs.Headed.{headed-some, headed-here, headed-walk}

@@ -3,7 +3,7 @@ use borrow.Author.Needs.{needs}
 use native.Mathlib.Omega.{arith}
 use Prim.Native.Nat.{_+_}
 use Rattle.profile.specs.Numbers.{tableOf}
-use Rattle.reader.specs.declared.seen.Listed.the-variants.{None, Segment}
+use Rattle.reader.specs.declared.listing.Listed.the-variants.{None, Segment}
 use Rattle.reader.proofs.Counted.{opens-behind}
 use Rattle.reader.proofs.Walking.{next-as, walks-broken, walks-end, walks-behind}
 use Rattle.reader.proofs.walk.read_on.Statement.{statement}

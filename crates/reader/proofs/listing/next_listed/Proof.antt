@@ -5,8 +5,8 @@ use native.Mathlib.Omega.{arith}
 use Prim.Native.Nat.{_-_}
 use lib.ListN.{length}
 use Rattle.reader.proofs.NextListed.{Passed, passed-first, passed-listed, passed-other, passed-short, passed-all}
-use Rattle.reader.proofs.seen.next_listed.Statement.{statement}
-use Rattle.reader.proofs.seen.next_listed.Tie as tie
+use Rattle.reader.proofs.listing.next_listed.Statement.{statement}
+use Rattle.reader.proofs.listing.next_listed.Tie as tie
 
 abbrev Inv-loop : tie.InvT-loop
 Inv-loop m t at start₀ end₀ start end = Passed t m at start end

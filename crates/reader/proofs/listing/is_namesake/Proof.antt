@@ -1,8 +1,8 @@
 -- `is_namesake`: three bytes against three, where there are three.
 use borrow.Author.Needs.{needs}
 use Rattle.reader.proofs.Counted.{namesake-short, namesake-long}
-use Rattle.reader.proofs.seen.is_namesake.Statement.{statement}
-use Rattle.reader.proofs.seen.is_namesake.Tie as tie
+use Rattle.reader.proofs.listing.is_namesake.Statement.{statement}
+use Rattle.reader.proofs.listing.is_namesake.Tie as tie
 
 returns : tie.Need-returns
 returns c =

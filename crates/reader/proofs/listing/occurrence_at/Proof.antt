@@ -4,8 +4,8 @@ use mathlib.Core.Logic.{⊎-elim}
 use native.Mathlib.Omega.{arith}
 use Prim.Native.Nat.{_<_, _-_}
 use Rattle.reader.proofs.Counted.{Counted, counted-first, counted-end, counted-more, counted-other, counted-all}
-use Rattle.reader.proofs.seen.occurrence_at.Statement.{statement}
-use Rattle.reader.proofs.seen.occurrence_at.Tie as tie
+use Rattle.reader.proofs.listing.occurrence_at.Statement.{statement}
+use Rattle.reader.proofs.listing.occurrence_at.Tie as tie
 
 abbrev Inv-loop : tie.InvT-loop
 Inv-loop m start occurrence₀ at₀ occurrence at = Counted m start occurrence at
