@@ -1,6 +1,6 @@
 -- A struck segment is seen as the segment was.
 use mathlib.Core.Path.{_≡_, refl, sym, ap, subst, _∙_}
-use Prim.Native.Nat.{ℕ, zero, suc}
+use Prim.Native.Nat.{ℕ, suc}
 use native.Mathlib.Omega.{arith}
 use mathlib.Core.Bool.{Bool, true, false, not, _&&_, _||_}
 use mathlib.Core.List.{List, [], _∷_, flatMap}
@@ -11,12 +11,13 @@ use Rattle.text.specs.Bytes.{Text, pick, empty, some, keep, same}
 use Rattle.text.specs.declared.marks.Marks.{Marks}
 use Rattle.text.proofs.Tests.{not-true, both, same-true}
 use Rattle.text.proofs.Lists.{All, and-both, or-left, or-right, all-map, all-both, all-keep, all-kept, every-all, some-mono, some-flatMap, map-same, flatMap-same, all-flatMap}
-use Rattle.parts.specs.Split.{split, piece}
-use Rattle.parts.specs.Descent.{cut, part}
+use Rattle.parts.specs.Split.{split}
+use Rattle.parts.specs.Descent.{cut}
 use Rattle.frame.specs.Segments.{name, field, unsplit}
 use Rattle.profile.specs.Table.{Table, Leaf, Listed, leaf, named-by, Row, Rule, rule, gather, gathered, rulesOf, leavesIn}
+use Rattle.reader.proofs.LeafByLeaf.{none-filled}
 use Rattle.reader.specs.Place.{leafOf, repetitions}
-use Rattle.reader.specs.View.{Field, entriesOf, isFilled, filledFrom, namedIn, fieldSeen, segmentSeen}
+use Rattle.reader.specs.View.{Field, entriesOf, filledFrom, namedIn, fieldSeen, segmentSeen}
 use Rattle.demands.specs.Strike.{change, hasLeaf, rowsAt, hasField, leavesAt, strikeField, strikeSegment}
 use Rattle.demands.specs.Fit.{listsComponent, hasRow, namerListed, mayRepeat, rowFit, fit}
 use Rattle.demands.proofs.Shrink.{change-length, split-rewritten, rewritten-empty}
@@ -171,25 +172,11 @@ module _ (q : Marks) where
   abbrev reps : Bool → Text → List Text
   reps w t = pick (empty t) [] (cut w (q .repetition) t)
 
-  nothing : (n : ℕ) → piece n ([] ∷ []) ≡ []
-  nothing zero = refl
-  nothing (suc zero) = refl
-  nothing (suc (suc n)) = refl
-
-  no-leaf : (c b : ℕ) → leafOf q false [] c b ≡ []
-  unfolding part split
-  no-leaf c b = rw (nothing c) (nothing b)
-
-  not-filled : (ls : List Leaf) → isFilled (entriesOf q false ls []) ≡ false
-  unfolding some
-  not-filled [] = refl
-  not-filled (l ∷ ls) = rw (no-leaf (l .component) (l .subcomponent)) (not-filled ls)
-
   -- a field of no bytes has no filled repetition, whether it is taken for none or for one
   filled-all : (ls : List Leaf) (k : ℕ) (t : Text)
       → filledFrom k (entriesOf q false ls) (reps false t) ≡ filledFrom k (entriesOf q false ls) (split (q .repetition) t)
   unfolding filledFrom split
-  filled-all ls k [] = rw (not-filled ls)
+  filled-all ls k [] = rw (none-filled q ls)
   filled-all ls k (b ∷ t) = refl
 
 module _ (T : Table) (q : Marks) (s : Text) (f : ℕ) (has : hasField T (name s) f ≡ true) where

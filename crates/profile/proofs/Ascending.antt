@@ -15,8 +15,8 @@ use Rattle.text.proofs.Tests.{both}
 use Rattle.text.proofs.Lists.{and-both, or-either, or-none}
 use Rattle.profile.specs.Table.{Leaf, Table, leavesIn, typeLeaves}
 use Rattle.profile.specs.Numbers.{leafOf, listedOf}
-use Rattle.profile.specs.Order.{placeOf, rising, rises, small, isNamed, listsLeaf, fieldFits, namerFits, isProper, sameField, alone, Ordered}
-use Rattle.profile.specs.Inner.{Ascends, areOf}
+use Rattle.profile.specs.Order.{areOf, placeOf, rising, rises, small, isNamed, listsLeaf, fieldFits, namerFits, isProper, sameField, alone, Ordered}
+use Rattle.profile.specs.Inner.{Ascends}
 use Rattle.profile.proofs.Stretch.{apart}
 
 -- a proper row

@@ -14,8 +14,8 @@ use Rattle.text.proofs.Tests.{both}
 use Rattle.text.proofs.Lists.{and-both}
 use Rattle.profile.specs.Table.{Listed, Row, Rule, rule, gather, gathered, leavesIn, leavesOf}
 use Rattle.profile.specs.Numbers.{leafOf, listedOf, rowOf, rowsWithin, tableOf}
-use Rattle.profile.specs.Order.{rises, isProper, sameField, Ordered}
-use Rattle.profile.specs.Inner.{ofField, Ascends, IsField, ruleAt, areOf, leavesNamed}
+use Rattle.profile.specs.Order.{areOf, rises, isProper, sameField, Ordered}
+use Rattle.profile.specs.Inner.{ofField, Ascends, IsField, ruleAt, leavesNamed}
 use Rattle.profile.proofs.RowSteps.{rows-none, rows-next, rows-length, front-length, rows-cut}
 use Rattle.profile.proofs.Stretch as stretch
 use Rattle.profile.proofs.Stretch.{every-left, every-right}

@@ -12,8 +12,8 @@ use Rattle.text.specs.Bytes.{every}
 use Rattle.text.proofs.Tests.{both}
 use Rattle.text.proofs.Lists.{and-both}
 use Rattle.profile.specs.Numbers.{rowsFrom, rowsWithin, begin, under}
-use Rattle.profile.specs.Order.{placeOf, rising, rises, isNamed, sameField, alone, behind, isWhole, Ordered, Sound}
-use Rattle.profile.specs.Inner.{areOf, Under}
+use Rattle.profile.specs.Order.{areOf, placeOf, rising, rises, isNamed, sameField, alone, behind, isWhole, Ordered, Sound}
+use Rattle.profile.specs.Inner.{Under}
 use Rattle.profile.proofs.RowSteps.{rows-cut, rows-sooner}
 
 pub every-left : {A : Type 0} (f : A → Bool) (l r : List A) → every f (l ++ r) ≡ true → every f l ≡ true

@@ -1,7 +1,7 @@
 -- What only inner functions promise and ask for: the rows of a lent table, told from where a reader stands.
 use Prim.Native.Nat.{ℕ, suc, _+_, _≤_}
 use mathlib.Core.Path.{_≡_}
-use mathlib.Core.Bool.{Bool, true}
+use mathlib.Core.Bool.{true}
 use mathlib.Core.List.{List, [], _∷_, map}
 use lib.ListN.{length, getD, drop}
 use lib.Dec.{eqb}
@@ -9,7 +9,7 @@ use Rattle.text.specs.Bytes.{Text, pick, every}
 use Rattle.profile.specs.declared.rows.Rows.{Rows}
 use Rattle.profile.specs.Table.{Leaf, Rule, typeLeaves}
 use Rattle.profile.specs.Numbers.{leafOf, listedOf, usageOf, rowsWithin, under, tableOf}
-use Rattle.profile.specs.Order.{sameField, Ordered}
+use Rattle.profile.specs.Order.{sameField, areOf, Ordered}
 
 -- where these rows stand in the table
 pub record Stand (t : List ℕ) (r : Rows) (rs : List (List ℕ)) : Type 0 where
@@ -47,10 +47,6 @@ ruleAt t at end =
       repetitions = getD t (at + 5) 0;
       lists = map listedOf (rowsWithin at end t);
     }
-
--- rows of the segment with that number
-abbrev pub areOf : ℕ → List (List ℕ) → Bool
-areOf k rs = every (λ (r : List ℕ). eqb (getD r 0 0) k) rs
 
 -- the rows under a number, and those that list the leaves of the type named so
 pub record Under (t : List ℕ) (k : ℕ) (r : Rows) : Type 0 where

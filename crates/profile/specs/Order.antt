@@ -65,12 +65,16 @@ behind = 18
 abbrev pub allRows : List ℕ → List (List ℕ)
 allRows t = rowsWithin behind (length t) t
 
+-- rows of the segment, or of the type, with that number
+abbrev pub areOf : ℕ → List (List ℕ) → Bool
+areOf k rs = every (λ (r : List ℕ). eqb (getD r 0 0) k) rs
+
 abbrev pub isWhole : ℕ → List ℕ → Bool
 isWhole k t =
     eqb (begin t k) (behind + (begin t k - behind) / 11 * 11)
     && ltb (begin t k) (begin t (suc k))
     && leb (begin t (suc k)) (length t)
-    && every (λ (r : List ℕ). eqb (getD r 0 0) k) (under k t)
+    && areOf k (under k t)
 
 -- rows in order: what those within a place and another have of all of them
 pub record Ordered (rs : List (List ℕ)) : Type 0 where

@@ -18,8 +18,8 @@ use Rattle.frame.specs.Segments.{name, isHeader, field, headerField, unsplit}
 use Rattle.profile.specs.Table.{Table, Rule, leavesOf}
 use Rattle.reader.specs.Place.{repetitions}
 use Rattle.reader.specs.View.{namedIn, fieldSeen}
-use Rattle.reader.specs.Fault.{firstFilled}
-use Rattle.reader.specs.Judged.{HasNumber, repetitionsIn, filledIn, startsFilled}
+use Rattle.reader.specs.Fault.{startsFilled, firstFilled}
+use Rattle.reader.specs.Judged.{HasNumber, repetitionsIn, filledIn}
 use Rattle.parts.proofs.Moving.{cursor-text}
 use Rattle.profile.proofs.Numbered.{header-number}
 

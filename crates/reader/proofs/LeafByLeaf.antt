@@ -42,7 +42,7 @@ broken q ls s n o f k = firstBroken (repetitionChecks q n o f (record { number =
 no-leaf : (q : Marks) (c b : ℕ) → leafOf q false [] c b ≡ []
 no-leaf q c b = part-nil (inRepetition q c b)
 
-none-filled : (q : Marks) (ls : List Leaf) → isFilled (entriesOf q false ls []) ≡ false
+pub none-filled : (q : Marks) (ls : List Leaf) → isFilled (entriesOf q false ls []) ≡ false
 unfolding some
 none-filled q [] = refl
 none-filled q (l ∷ ls) = rw (no-leaf q (l .component) (l .subcomponent)) (none-filled q ls)

@@ -15,4 +15,5 @@ pub mod NextListed
 pub mod Walking
 pub mod Halted
 pub mod Headed
+pub mod Accepted
 pub mod Unique

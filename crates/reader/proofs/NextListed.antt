@@ -24,17 +24,17 @@ use Rattle.reader.specs.Judged.{countFrom, Opens, Next}
 use Rattle.profile.proofs.Rules.{listed-number}
 use Rattle.reader.proofs.Counted.{segment-next, opens-behind, count-on, other-name}
 
-pub record Passed (t : List ℕ) (m : Text) (at start end : ℕ) : Type 0 where
+pub record Passed (m : Text) (at start end : ℕ) : Type 0 where
   pub low : at ≤ start
   pub inside : start ≤ length m
   pub ends : end ≡ start + reach cr (drop start m)
   pub opens : Opens m start
-  pub unlisted : listedSegments (tableOf t) (drop at m) ≡ listedSegments (tableOf t) (drop start m)
+  pub unlisted : (t : List ℕ) → Sound t → listedSegments (tableOf t) (drop at m) ≡ listedSegments (tableOf t) (drop start m)
   pub counts : (n : Text) → 1 ≤ segmentNumber n → countFrom m at n ≡ countFrom m start n
 
-pub passed-first : (t : List ℕ) (m : Text) (at end : ℕ) → at ≤ length m → Opens m at → end ≡ at + reach cr (drop at m) → Passed t m at at end
-passed-first t m at end l o e =
-    record { low = omega arith; inside = l; ends = e; opens = o; unlisted = refl; counts = λ n h. refl }
+pub passed-first : (m : Text) (at end : ℕ) → at ≤ length m → Opens m at → end ≡ at + reach cr (drop at m) → Passed m at at end
+passed-first m at end l o e =
+    record { low = omega arith; inside = l; ends = e; opens = o; unlisted = λ t h. refl; counts = λ n h. refl }
 
 name-three : (s : Text) → 3 ≤ length s → name s ≡ three s
 name-three [] h = absurd (omega arith)
@@ -42,7 +42,7 @@ name-three (x ∷ []) h = absurd (omega arith)
 name-three (x ∷ y ∷ []) h = absurd (omega arith)
 name-three (x ∷ y ∷ z ∷ s) h = refl
 
-module _ (t : List ℕ) (sound : Sound t) (m : Text) (at start end : ℕ) (w : Passed t m at start end) where
+module _ (m : Text) (at start end : ℕ) (w : Passed m at start end) where
   module _ (more : end < length m) where
     abbrev s : Text
     s = within start end m
@@ -62,23 +62,23 @@ module _ (t : List ℕ) (sound : Sound t) (m : Text) (at start end : ℕ) (w : P
         let z : start + 0 ≡ start = omega arith in
         rw (name-three s (omega (arith, long)), at-start 0 (omega arith), at-start 1 (omega arith), at-start 2 (omega arith), z) (sym e)
 
-    listed : (k : ℕ) → segmentNumber (name s) ≡ k → isListed (tableOf t) (name s) ≡ not (eqb k 0)
-    listed k e = listed-number t sound (name s) ∙ ap (λ (n : ℕ). not (eqb n 0)) e
+    listed : (t : List ℕ) → Sound t → (k : ℕ) → segmentNumber (name s) ≡ k → isListed (tableOf t) (name s) ≡ not (eqb k 0)
+    listed t sound k e = listed-number t sound (name s) ∙ ap (λ (n : ℕ). not (eqb n 0)) e
 
     pub passed-listed : (k : ℕ) → 3 ≤ end - start → k ≡ segmentNumber (getD m start 0 ∷ getD m (start + 1) 0 ∷ getD m (start + 2) 0 ∷ [])
-        → (k ≡ 0 → ⊥) → Next (tableOf t) m at start end k
+        → (k ≡ 0 → ⊥) → (t : List ℕ) → Sound t → Next (tableOf t) m at start end k
     unfolding keep
-    passed-listed k l e n =
+    passed-listed k l e n t sound =
         let number = named k l e in
-        let is : isListed (tableOf t) (name s) ≡ true = listed k number ∙ ap not (ne-eqb k 0 n) in
+        let is : isListed (tableOf t) (name s) ≡ true = listed t sound k number ∙ ap not (ne-eqb k 0 n) in
         record {
           low = w .low;
           here = record { opens = w .opens; ends = w .ends; high = more; number = (number, omega (arith, n)) };
-          first = w .unlisted ∙ rw (next, is);
+          first = w .unlisted t sound ∙ rw (next, is);
           counts = w .counts;
         }
 
-    on : (end' : ℕ) → segmentNumber (name s) ≡ 0 → end' ≡ end + 1 + reach cr (drop (end + 1) m) → Passed t m at (end + 1) end'
+    on : (end' : ℕ) → segmentNumber (name s) ≡ 0 → end' ≡ end + 1 + reach cr (drop (end + 1) m) → Passed m at (end + 1) end'
     unfolding keep
     on end' e e' =
         record {
@@ -86,18 +86,18 @@ module _ (t : List ℕ) (sound : Sound t) (m : Text) (at start end : ℕ) (w : P
           inside = omega arith;
           ends = e';
           opens = opens-behind m start end (w .ends) more;
-          unlisted = w .unlisted ∙ rw (next, listed 0 e);
+          unlisted = λ t sound. w .unlisted t sound ∙ rw (next, listed t sound 0 e);
           counts = λ n h. w .counts n h ∙ count-on m start end (w .ends) more n ∙ rw (other-name n (name s) h e, zero-add);
         }
 
     pub passed-other : (k end' : ℕ) → 3 ≤ end - start → k ≡ segmentNumber (getD m start 0 ∷ getD m (start + 1) 0 ∷ getD m (start + 2) 0 ∷ [])
-        → k ≡ 0 → end' ≡ end + 1 + reach cr (drop (end + 1) m) → Passed t m at (end + 1) end'
+        → k ≡ 0 → end' ≡ end + 1 + reach cr (drop (end + 1) m) → Passed m at (end + 1) end'
     passed-other k end' l e z e' = on end' (named k l e ∙ z) e'
 
     -- fewer than three bytes are no name
-    pub passed-short : (end' : ℕ) → end - start < 3 → end' ≡ end + 1 + reach cr (drop (end + 1) m) → Passed t m at (end + 1) end'
+    pub passed-short : (end' : ℕ) → end - start < 3 → end' ≡ end + 1 + reach cr (drop (end + 1) m) → Passed m at (end + 1) end'
     passed-short end' l e' = on end' (no-number (name s) (λ e. omega (arith, e, long, length-take 3 s))) e'
 
-  pub passed-all : length m ≤ end → listedSegments (tableOf t) (drop at m) ≡ []
+  pub passed-all : length m ≤ end → (t : List ℕ) → Sound t → listedSegments (tableOf t) (drop at m) ≡ []
   unfolding keep
-  passed-all none = w .unlisted ∙ rw (ended-end cr m start end (w .inside) (w .ends) none)
+  passed-all none t sound = w .unlisted t sound ∙ rw (ended-end cr m start end (w .inside) (w .ends) none)

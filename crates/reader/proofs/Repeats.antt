@@ -21,8 +21,8 @@ use Rattle.reader.specs.declared.repetition.ReadRepetition.{ReadRepetiti
 use Rattle.reader.specs.declared.field.ReadField.{ReadField}
 use Rattle.reader.specs.Place.{Place, place}
 use Rattle.reader.specs.View.{Entry, Repetition, entriesOf, isFilled, filledFrom}
-use Rattle.reader.specs.Fault.{Verdict, accepted, fault, repetitionChecks, firstBroken}
-use Rattle.reader.specs.Judged.{told, repetitionsIn, filledIn, startsFilled, ReadsRepetition, ReadsField}
+use Rattle.reader.specs.Fault.{startsFilled, Verdict, accepted, fault, repetitionChecks, firstBroken}
+use Rattle.reader.specs.Judged.{told, repetitionsIn, filledIn, ReadsRepetition, ReadsField}
 use Rattle.reader.proofs.Breaks.{orElse, broken-append}
 
 -- the first broken check of these repetitions

@@ -12,8 +12,8 @@ use Rattle.frame.specs.Segments.{name}
 use Rattle.profile.specs.Table.{C, gathered}
 use Rattle.profile.specs.declared.rows.Rows.{Rows}
 use Rattle.profile.specs.Numbers.{rowOf, rowsWithin, tableOf}
-use Rattle.profile.specs.Order.{Ordered}
-use Rattle.profile.specs.Inner.{Under, ofField, IsField, ruleAt, areOf}
+use Rattle.profile.specs.Order.{areOf, Ordered}
+use Rattle.profile.specs.Inner.{Under, ofField, IsField, ruleAt}
 use Rattle.reader.specs.View.{Field, fieldSeen, segmentSeen}
 use Rattle.reader.specs.Fault.{firstFilled, isRequired}
 use Rattle.reader.specs.Judged.{HasNumber}

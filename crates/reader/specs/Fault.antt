@@ -41,8 +41,12 @@ repetitionChecks q n o f r =
     leafChecks q (place n o f (r .number) (e .leaf .component) (e .leaf .subcomponent)) (e .leaf) (e .text))
     (r .entries)
 
+-- the first repetition is one of the filled ones
+abbrev pub startsFilled : List Repetition → Bool
+startsFilled rs = some (λ (r : Repetition). eqb (r .number) 1) rs
+
 abbrev pub firstFilled : Field → Bool
-firstFilled v = some (λ (r : Repetition). eqb (r .number) 1) (v .filled)
+firstFilled v = startsFilled (v .filled)
 
 -- required, given the segment's listed fields
 abbrev pub isRequired : Usage → List Field → Bool

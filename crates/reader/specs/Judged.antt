@@ -1,11 +1,11 @@
 -- What only inner functions promise of judging: the first broken check of a repetition, a field, a segment, told from where a reader stands.
 use Prim.Native.Nat.{ℕ, suc, _+_, _-_, _≤_, _<_}
 use mathlib.Core.Path.{_≡_}
-use mathlib.Core.Bool.{Bool, true, false}
+use mathlib.Core.Bool.{true, false}
 use mathlib.Core.List.{List, [], _∷_, map, flatMap}
 use lib.ListN.{length, getD, take, drop}
 use lib.Dec.{eqb, ltb}
-use Rattle.text.specs.Bytes.{Text, pick, cr, empty, some, within}
+use Rattle.text.specs.Bytes.{Text, pick, cr, empty, within}
 use Rattle.text.specs.declared.marks.Marks.{Marks}
 use Rattle.text.specs.Marks.{marksOf}
 use Rattle.parts.specs.Split.{split, reach}
@@ -20,8 +20,8 @@ use Rattle.reader.specs.declared.listing.Listed.{Listed}
 use Rattle.reader.specs.declared.listing.Listed.the-variants as listed
 use Rattle.reader.specs.declared.walk.Halt.{Halt}
 use Rattle.reader.specs.Place.{Place, place}
-use Rattle.reader.specs.View.{Repetition, entriesOf, isFilled, filledFrom, namedIn, fieldSeen, segmentSeen, listedSegments}
-use Rattle.reader.specs.Fault.{Verdict, accepted, fault, repetitionChecks, fieldChecks, firstBroken, count, walk}
+use Rattle.reader.specs.View.{Repetition, Field, entriesOf, isFilled, filledFrom, namedIn, fieldSeen, segmentSeen, listedSegments}
+use Rattle.reader.specs.Fault.{Verdict, accepted, fault, repetitionChecks, startsFilled, fieldChecks, firstBroken, count, walk}
 
 -- a reason of nought: nothing is broken
 abbrev pub told : Place → ℕ → Verdict
@@ -40,9 +40,6 @@ repetitionsIn q x = pick (empty x) [] (split (q .repetition) x)
 abbrev pub filledIn : Marks → List Leaf → Text → List Repetition
 filledIn q ls x = filledFrom 1 (entriesOf q false ls) (repetitionsIn q x)
 
-abbrev pub startsFilled : List Repetition → Bool
-startsFilled rs = some (λ (r : Repetition). eqb (r .number) 1) rs
-
 pub record ReadsField (q : Marks) (ls : List Leaf) (most : ℕ) (x : Text) (r : ReadField) : Type 0 where
   pub surplus : r .surplus ≡ ltb most (length (repetitionsIn q x))
   pub filled : r .filled ≡ startsFilled (filledIn q ls x)
@@ -56,6 +53,9 @@ toldAt n o r = told (place n o (r .field) (r .repetition) (r .component) (r .sub
 abbrev pub atRepetition : ℕ → ℕ → ℕ → Finding
 atRepetition n f r = record { reason = n; field = f; repetition = r; component = 0; subcomponent = 0 }
 
+abbrev pub fieldsSeen : List ℕ → Marks → Text → List Field
+fieldsSeen t q s = segmentSeen (tableOf t) q s .fields
+
 abbrev pub ReadsSegment : Marks → Table → Text → Finding → Type 0
 ReadsSegment q T s r =
     (n : Text) (o : ℕ) → toldAt n o r ≡ firstBroken (flatMap (fieldChecks q n o (segmentSeen T q s .fields)) (segmentSeen T q s .fields))
@@ -68,7 +68,7 @@ leavesOfField q t s at end = leavesOf (tableOf t) (namedIn q s) (ruleAt t at end
 abbrev pub ReadsFieldAt : Marks → List ℕ → Text → ℕ → ℕ → Finding → Type 0
 ReadsFieldAt q t s at end r =
     (n : Text) (o : ℕ)
-    → toldAt n o r ≡ firstBroken (fieldChecks q n o (segmentSeen (tableOf t) q s .fields) (fieldSeen (tableOf t) q s (ruleAt t at end)))
+    → toldAt n o r ≡ firstBroken (fieldChecks q n o (fieldsSeen t q s) (fieldSeen (tableOf t) q s (ruleAt t at end)))
 
 -- the segment has the name of that number
 abbrev pub HasNumber : Text → ℕ → Type 0

@@ -77,7 +77,7 @@ fn judge_framed(m: &[u8], t: &[u16]) -> Verdict
     requires { ⌜ Sound (now t) × (framed (now m) ≡ true) ⌝ }
     ensures { λ r. ⌜ verdictOf r ≡ given (verdict (tableOf (now (t .entry))) (now (m .entry))) ⌝ }
 {
-    match next_listed(m, t, 0) {
+    match next_listed(m, 0) {
         Listed::None => Verdict::Accepted,
         Listed::Segment {
             start,

@@ -1,6 +1,7 @@
 // Listed segments one after another, and which of its name one is.
 ghost use mathlib.Core.Path.{_≡_};
-ghost use Prim.Native.Nat.{_+_, _≤_};
+ghost use mathlib.Core.List.{List};
+ghost use Prim.Native.Nat.{ℕ, _+_, _≤_};
 ghost use lib.ListN.{length};
 ghost use Rattle.text.specs.Bytes.{same, within};
 ghost use Rattle.frame.specs.Segments.{name};
@@ -21,10 +22,10 @@ pub enum Listed {
     },
 }
 
-// The next listed segment: unlisted ones are passed over.
-pub fn next_listed(m: &[u8], t: &[u16], at: usize) -> Listed
-    requires { ⌜ (at ≤ length (now m)) × (Sound (now t) × Opens (now m) at) ⌝ }
-    ensures { λ r. ⌜ NextIs (tableOf (now (t .entry))) (now (m .entry)) at r ⌝ }
+// The next listed segment: unlisted ones are passed over. Every table that keeps the rule lists the same names.
+pub fn next_listed(m: &[u8], at: usize) -> Listed
+    requires { ⌜ (at ≤ length (now m)) × Opens (now m) at ⌝ }
+    ensures { λ r. ⌜ ((t : List ℕ) → Sound t → NextIs (tableOf t) (now (m .entry)) at r) ⌝ }
 {
     let mut start = at;
     let mut end = far_end(m, at, b'\r');

@@ -12,8 +12,8 @@ ghost use Rattle.profile.specs.Table.{C};
 ghost use Rattle.profile.specs.Numbers.{tableOf, usageOf};
 ghost use Rattle.profile.specs.Order.{Sound};
 ghost use Rattle.reader.specs.Fault.{firstFilled, isRequired};
-ghost use Rattle.reader.specs.View.{fieldSeen, segmentSeen};
-ghost use Rattle.reader.specs.Judged.{ReadsSegment, HasNumber, leavesOfField, ReadsFieldAt, atRepetition};
+ghost use Rattle.reader.specs.View.{fieldSeen};
+ghost use Rattle.reader.specs.Judged.{ReadsSegment, HasNumber, fieldsSeen, leavesOfField, ReadsFieldAt, atRepetition};
 use crate::field::read_field;
 use parts::advance;
 use parts::first_piece;
@@ -33,7 +33,8 @@ pub struct Finding {
     pub subcomponent: u64,
 }
 
-// Where a segment's fields begin: the header's third behind its ninth byte, any other's first behind its name and one separator.
+// Where a segment's fields begin: the header's third behind its ninth byte, any other's first behind its name and one
+// separator.
 fn fields_start(s: &[u8], k: u16) -> usize
     ensures { λ r. ⌜ r ≡ min (pick (eqb k 1) 9 4) (length (now (s .entry))) ⌝ }
 {
@@ -86,7 +87,7 @@ fn first_leaf(x: &[u8], q: Marks) -> usize
     piece_end(&x[0..b], 0, q.subcomponent)
 }
 
-// The rows of the leaves that a field lists: its own rows, from `at` up to `end`, or those of the type that another field names.
+// The rows of the leaves that a field lists: its own, from `at` up to `end`, or those of the type that another one names.
 fn leaf_rows(s: &[u8], q: Marks, t: &[u16], k: u16, at: usize, end: usize) -> Rows
     requires { ⌜ Sound (now t) × HasNumber (now s) k ⌝ }
     requires { ⌜ IsField (now t) k at end ⌝ }
@@ -116,7 +117,7 @@ fn starts_filled(s: &[u8], q: Marks, t: &[u16], k: u16, at: usize, end: usize) -
 // Whether the first repetition of the listed field with that number is filled.
 fn is_filled(s: &[u8], q: Marks, t: &[u16], k: u16, number: u16) -> bool
     requires { ⌜ Sound (now t) × HasNumber (now s) k ⌝ }
-    ensures { λ r. ⌜ r ≡ isRequired (C number) (segmentSeen (tableOf (now (t .entry))) q (now (s .entry)) .fields) ⌝ }
+    ensures { λ r. ⌜ r ≡ isRequired (C number) (fieldsSeen (now (t .entry)) q (now (s .entry))) ⌝ }
 {
     let rows = rows_under(t, k);
     let last = rows.end;
@@ -136,7 +137,7 @@ fn is_filled(s: &[u8], q: Marks, t: &[u16], k: u16, number: u16) -> bool
 // Whether a field of that usage must be there.
 fn is_required(s: &[u8], q: Marks, t: &[u16], k: u16, usage: u16) -> bool
     requires { ⌜ Sound (now t) × HasNumber (now s) k ⌝ }
-    ensures { λ r. ⌜ r ≡ isRequired (usageOf usage) (segmentSeen (tableOf (now (t .entry))) q (now (s .entry)) .fields) ⌝ }
+    ensures { λ r. ⌜ r ≡ isRequired (usageOf usage) (fieldsSeen (now (t .entry)) q (now (s .entry))) ⌝ }
 {
     if usage < 2 {
         return usage == 1;
@@ -183,8 +184,8 @@ fn judge_field(s: &[u8], text: &[u8], q: Marks, t: &[u16], k: u16, at: usize, en
     }
 }
 
-// Reads a segment's listed fields, rising, each byte passed once on the way from field to field. One of no bytes has no repetition: all that
-// it can break is to be missing.
+// Reads a segment's listed fields, rising, each byte passed once on the way from field to field. A field of no bytes has
+// no repetition: all that it can break is to be missing.
 pub fn read_segment(s: &[u8], q: Marks, t: &[u16], k: u16) -> Finding
     requires { ⌜ Sound (now t) × HasNumber (now s) k ⌝ }
     ensures { λ r. ⌜ ReadsSegment q (tableOf (now (t .entry))) (now (s .entry)) r ⌝ }

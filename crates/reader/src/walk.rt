@@ -57,7 +57,7 @@ fn read_on(m: &[u8], t: &[u16], start: usize, end: usize, number: u16) -> Onward
             end,
         });
     }
-    match next_listed(m, t, end + 1) {
+    match next_listed(m, end + 1) {
         Listed::None => Onward::Halt(Halt {
             reason: end_behind(number),
             start,

@@ -62,6 +62,16 @@ unfolding first
 first-asked [] a c e = cc
 first-asked (t ∷ ts) a c e = asked-step (t .applies) (t .refusal) a c (first ts a) (first-asked ts a c) e
 
+passes-step : {A : Type 0} (b p : Bool) (x : Refusal) (c : A) (s : Answer A) → (s ≡ given c → p ≡ true) → pick b (refused x) s ≡ given c → pick b false p ≡ true
+passes-step true p x c s h e = absurd (let z : _≡_ {A = ℕ} 0 1 = cc in omega arith)
+passes-step false p x c s h e = h e
+
+-- and only where no refusal applies
+pub given-passes : {A : Type 0} (ts : List Test) (a c : A) → first ts a ≡ given c → passes ts ≡ true
+unfolding first passes
+given-passes [] a c e = refl
+given-passes (t ∷ ts) a c e = passes-step (t .applies) (passes ts) (t .refusal) c (first ts a) (given-passes ts a c) e
+
 tell-step : {A B : Type 0} (f : A → B) (b : Bool) (x y : Answer A) → tell f (pick b x y) ≡ pick b (tell f x) (tell f y)
 tell-step f true x y = refl
 tell-step f false x y = refl

@@ -16,10 +16,10 @@ next c =
     let l = c .before .before .before in
     let b = l .before .before .before in
     let x = c .before .start .given in
-    next-as (tableOf (b .args .t .now)) (b .args .m .now) 0 (l .next-listed .result) (Segment (x .0 .0) (x .0 .1 .0) (x .0 .1 .1 .0)) (x .1) (l .next-listed .ensures)
+    next-as (tableOf (b .args .t .now)) (b .args .m .now) 0 (l .next-listed .result) (Segment (x .0 .0) (x .0 .1 .0) (x .0 .1 .1 .0)) (x .1) (l .next-listed .ensures (b .args .t .now) (b .pre .0))
 
 next-listed-requires : tie.Need-next-listed-requires
-next-listed-requires c κs = (search needs, (c .before .before .pre .0, refl))
+next-listed-requires c κs = (search needs, refl)
 
 header-requires : tie.Need-header-requires
 header-requires c κs =
@@ -38,7 +38,7 @@ returns c =
     let b = l .before .before .before in
     absurd
     (headed-some (b .args .t .now) (b .args .m .now) (b .pre .0) (b .pre .1)
-    (next-as (tableOf (b .args .t .now)) (b .args .m .now) 0 (l .next-listed .result) None (c .enum-told .given .1) (l .next-listed .ensures)))
+    (next-as (tableOf (b .args .t .now)) (b .args .m .now) 0 (l .next-listed .result) None (c .enum-told .given .1) (l .next-listed .ensures (b .args .t .now) (b .pre .0))))
 
 returns-2 : tie.Need-returns-2
 returns-2 c =

@@ -9,15 +9,15 @@ use Rattle.reader.proofs.listing.next_listed.Statement.{statement}
 use Rattle.reader.proofs.listing.next_listed.Tie as tie
 
 abbrev Inv-loop : tie.InvT-loop
-Inv-loop m t at start₀ end₀ start end = Passed t m at start end
+Inv-loop m at start₀ end₀ start end = Passed m at start end
 
 abbrev μ-loop : tie.MeasureT-loop
-μ-loop m t at start₀ end₀ start end = length m - start
+μ-loop m at start₀ end₀ start end = length m - start
 
 loop-holds : tie.Need-loop-holds Inv-loop μ-loop
 loop-holds c =
-    let b = c .before .before .before in
-    passed-first _ _ _ _ (b .pre .0) (b .pre .1 .1) (c .far-end .ensures)
+    let b = c .before .before in
+    passed-first _ _ _ (b .pre .0) (b .pre .1) (c .far-end .ensures)
 
 sub-if1 : tie.Need-sub-if1 Inv-loop μ-loop
 sub-if1 c = omega (arith, c .before .loop .inv .ends)
@@ -26,29 +26,29 @@ returns : tie.Need-returns Inv-loop μ-loop
 returns c =
     let then = c .before .before .before .before .before in
     let at = then .before .before in
-    let begin = at .before .before .before .before in
+    let begin = at .before .before .before in
     let a = begin .args in
-    passed-listed (a .t .now) (begin .pre .1 .0) (a .m .now) (a .at) (at .loop .start) (at .loop .end) (at .loop .inv) (then .before .loop-test .taken)
+    passed-listed (a .m .now) (a .at) (at .loop .start) (at .loop .end) (at .loop .inv) (then .before .loop-test .taken)
     (c .before .segment-number .result) (then .if1 .taken) (c .before .segment-number .ensures) (c .if2 .taken)
 
 loop-again : tie.Need-loop-again Inv-loop μ-loop
 loop-again c =
     let turn = c .before .before in
     let at = turn .before in
-    let begin = at .before .before .before .before in
+    let begin = at .before .before .before in
     let a = begin .args in
     ⊎-elim
-    (λ w. passed-other (a .t .now) (begin .pre .1 .0) (a .m .now) (a .at) (at .loop .start) (at .loop .end) (at .loop .inv) (turn .loop-test .taken)
+    (λ w. passed-other (a .m .now) (a .at) (at .loop .start) (at .loop .end) (at .loop .inv) (turn .loop-test .taken)
     (w .4 .result) _ (w .0 .taken) (w .4 .ensures) (w .5 .left) (c .far-end2 .ensures))
-    (λ w. passed-short (a .t .now) (begin .pre .1 .0) (a .m .now) (a .at) (at .loop .start) (at .loop .end) (at .loop .inv) (turn .loop-test .taken) _ (w .left) (c .far-end2 .ensures))
+    (λ w. passed-short (a .m .now) (a .at) (at .loop .start) (at .loop .end) (at .loop .inv) (turn .loop-test .taken) _ (w .left) (c .far-end2 .ensures))
     (c .before .if1 .came)
 
 returns-2 : tie.Need-returns-2 Inv-loop μ-loop
 returns-2 c =
     let at = c .before in
-    let begin = at .before .before .before .before in
+    let begin = at .before .before .before in
     let a = begin .args in
-    passed-all (a .t .now) (begin .pre .1 .0) (a .m .now) (a .at) (at .loop .start) (at .loop .end) (at .loop .inv) (c .loop-test .left)
+    passed-all (a .m .now) (a .at) (at .loop .start) (at .loop .end) (at .loop .inv) (c .loop-test .left)
 
 pub next-listed-spec : {M : Type 1} → statement M
 next-listed-spec =

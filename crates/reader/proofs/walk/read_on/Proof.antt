@@ -21,7 +21,7 @@ next-listed-requires : tie.Need-next-listed-requires
 next-listed-requires c κs =
     let b = c .before .before .before .before .before .before .before in
     let h = b .pre .1 in
-    (omega (arith, h .high), (b .pre .0, opens-behind (b .args .m .now) (b .args .start) (b .args .end) (h .ends) (h .high)))
+    (omega (arith, h .high), opens-behind (b .args .m .now) (b .args .start) (b .args .end) (h .ends) (h .high))
 
 returns-2 : tie.Need-returns-2
 returns-2 c =
@@ -32,7 +32,7 @@ returns-2 c =
     let b = q .before .before .before .before in
     walks-end (b .args .t .now) (b .args .m .now) (b .args .start) (b .args .end) (b .args .number) (b .pre .1)
     (r .read-segment .result) (q .marks-of .result) (q .marks-of .ensures) (r .read-segment .ensures) (e .if1 .left)
-    (next-as (tableOf (b .args .t .now)) (b .args .m .now) (b .args .end + 1) (l .next-listed .result) None (c .before .enum-told .given .1) (l .next-listed .ensures))
+    (next-as (tableOf (b .args .t .now)) (b .args .m .now) (b .args .end + 1) (l .next-listed .result) None (c .before .enum-told .given .1) (l .next-listed .ensures (b .args .t .now) (b .pre .0)))
     (c .end-behind .result) (c .end-behind .ensures)
 
 returns-3 : tie.Need-returns-3
@@ -46,7 +46,7 @@ returns-3 c =
     walks-behind (b .args .t .now) (b .args .m .now) (b .args .start) (b .args .end) (b .args .number) (b .pre .1)
     (r .read-segment .result) (q .marks-of .result) (q .marks-of .ensures) (r .read-segment .ensures) (e .if1 .left)
     (x .0 .0) (x .0 .1 .0) (x .0 .1 .1 .0)
-    (next-as (tableOf (b .args .t .now)) (b .args .m .now) (b .args .end + 1) (l .next-listed .result) (Segment (x .0 .0) (x .0 .1 .0) (x .0 .1 .1 .0)) (x .1) (l .next-listed .ensures))
+    (next-as (tableOf (b .args .t .now)) (b .args .m .now) (b .args .end + 1) (l .next-listed .result) (Segment (x .0 .0) (x .0 .1 .0) (x .0 .1 .1 .0)) (x .1) (l .next-listed .ensures (b .args .t .now) (b .pre .0)))
 
 pub read-on-spec : {M : Type 1} → statement M
 read-on-spec =
