@@ -2,10 +2,9 @@
 use mathlib.Core.Path.{_≡_, refl, sym, ap, _∙_}
 use Prim.Native.Nat.{ℕ, suc, _+_, _-_, _≤_, _<_}
 use native.Mathlib.Numerals.{add-one}
-use native.Mathlib.Nat.{zero-add}
 use native.Mathlib.Omega.{arith}
 use mathlib.Core.Bool.{Bool, true, false, _&&_, _||_}
-use mathlib.Core.List.{[], _∷_, _++_}
+use mathlib.Core.List.{[], _∷_, _++_, append-assoc}
 use lib.ListN.{length, getD, take, drop, set, length-drop, length-set, drop-of-length-le, take-append-drop}
 use lib.Seq.{drop-cons, drop-drop, getD-drop, take-suc-set, drop-set-lt, append-snoc}
 use lib.Dec.{eqb, ltb}
@@ -13,14 +12,16 @@ use borrow.Author.Tests.{eq-eqb, ne-eqb, lt-ltb, le-ltb}
 use Rattle.text.specs.Bytes.{Text, pick, byte}
 use Rattle.text.specs.Answer.{Answer, refused, given, test, first, bufferAfter, reported, writtenOf}
 use Rattle.text.specs.Marks.{usual}
-use Rattle.text.specs.Escape.{outside, begun, meaning, wrong, letter, next, isOutside, endsOutside, badEscape, resolvedFrom, resolved, resolve}
+use Rattle.text.specs.Escape.{Stand, outside, begun, meaning, wrong, letter, next, isOutside, endsOutside, badEscape, adding, resolvedFrom, resolved, resolve}
 use Rattle.text.specs.Step.{isLetter, meant, isEscape}
 use Rattle.text.specs.Promise.{Resolves}
+use Rattle.text.specs.Puts.{Puts}
 use Rattle.text.specs.declared.marks.Marks.{Marks}
 use Rattle.text.specs.declared.refusal.Refusal.the-variants.{NoRoom, BadEscape}
 use Rattle.text.specs.declared.Written.{Written}
 use Rattle.text.specs.declared.Written.the-variants.{Refused, Bytes}
 use Rattle.text.proofs.Tests.{not-true, both}
+use Rattle.text.proofs.Puts.{puts-front-room, puts-front-ends, puts-front}
 
 -- the letters one after the other, and whether it is one of them
 letter-step : (f s t r e : Bool) (a b c d x : ℕ)
@@ -206,44 +207,67 @@ filled-step n b rest buffer h =
     rw (add-one n, e, take-suc-set buffer n b h, drop-set-lt (n + suc (length rest)) buffer n b l)
     (append-snoc (take n buffer) b (rest ++ drop (n + suc (length rest)) buffer))
 
--- n bytes of the resolved text stand in the buffer, which held `before`, when the reader stands at i
-pub record Filled (q : Marks) (t before buffer : Text) (n i : ℕ) : Type 0 where
+-- so much of the resolved text as the reader has passed at i stands in the buffer, which held `before`, from `at` up to `to`
+pub record Filled (q : Marks) (t before : Text) (at : ℕ) (buffer : Text) (to i : ℕ) : Type 0 where
   pub within : i ≤ length t
   pub size : length buffer ≡ length before
-  pub room : n + length (resolvedFrom q outside (drop i t)) ≤ length buffer
+  pub room : at + length (resolvedFrom q outside t) ≤ length before
   pub good : endsOutside q outside (drop i t) ≡ true
-  pub told :
-      filled n (resolvedFrom q outside (drop i t)) buffer
-      ≡ resolvedFrom q outside t ++ drop (length (resolvedFrom q outside t)) before
+  pub left : to + length (resolvedFrom q outside (drop i t)) ≡ at + length (resolvedFrom q outside t)
+  pub told : filled to (resolvedFrom q outside (drop i t)) buffer ≡ filled at (resolvedFrom q outside t) before
 
-module _ (q : Marks) (t before : Text) where
-  pub filled-first : endsOutside q outside t ≡ true → length (resolvedFrom q outside t) ≤ length before → Filled q t before before 0 0
-  filled-first g h =
-      record {
-        within = omega arith;
-        size = refl;
-        room = omega arith;
-        good = g;
-        told = rw (zero-add (length (resolvedFrom q outside t)));
-      }
+module _ (q : Marks) (t before : Text) (at : ℕ) where
+  pub filled-first : endsOutside q outside t ≡ true → at + length (resolvedFrom q outside t) ≤ length before → Filled q t before at before at 0
+  filled-first g h = record { within = omega arith; size = refl; room = h; good = g; left = refl; told = refl }
 
-  module _ (buffer : Text) (n i : ℕ) (f : Filled q t before buffer n i) where
-    pub filled-room : (j b : ℕ) → Goes q t i j b → n < length buffer
-    filled-room j b g = omega (arith, ap length (g .reads), f .room)
+  module _ (buffer : Text) (to i : ℕ) (f : Filled q t before at buffer to i) where
+    pub filled-room : (j b : ℕ) → Goes q t i j b → to < length buffer
+    filled-room j b g = omega (arith, ap length (g .reads), f .room, f .left, f .size)
 
-    pub filled-more : (j b : ℕ) → Goes q t i j b → Filled q t before (set buffer n b) (n + 1) j
+    pub filled-more : (j b : ℕ) → Goes q t i j b → Filled q t before at (set buffer to b) (to + 1) j
     filled-more j b g =
         let k = filled-room j b g in
         record {
           within = g .within;
           size = simp length-set (f .size);
-          room = simp length-set (omega (arith, ap length (g .reads), f .room));
+          room = f .room;
           good = sym (g .ends) ∙ f .good;
-          told = filled-step n b (resolvedFrom q outside (drop j t)) buffer k ∙ (rw (g .reads) at (f .told));
+          left = omega (arith, ap length (g .reads), f .left);
+          told = filled-step to b (resolvedFrom q outside (drop j t)) buffer k ∙ (rw (g .reads) at (f .told));
         }
 
-    pub filled-all : length t ≤ i → buffer ≡ resolvedFrom q outside t ++ drop (length (resolvedFrom q outside t)) before
-    filled-all h = sym (filled-none n buffer) ∙ (rw (reads-end q t i h) at (f .told))
+    pub filled-all : length t ≤ i → Puts before at (resolvedFrom q outside t) buffer to
+    filled-all h =
+        record {
+          room = f .room;
+          holds =
+              sym (filled-none to buffer)
+              ∙ ((rw (reads-end q t i h) at (f .told))
+              ∙ sym (append-assoc (take at before) (resolvedFrom q outside t) (drop (at + length (resolvedFrom q outside t)) before)));
+          ends = omega (arith, f .left, ap length (reads-end q t i h));
+        }
+
+-- each byte adds at most one: a text resolved is no longer
+outside-length : (c : Bool) (b : ℕ) (t : Text) → length (pick c t (b ∷ t)) ≤ suc (length t)
+outside-length true b t = omega arith
+outside-length false b t = omega arith
+
+module _ (q : Marks) where
+  adding-length : (s : Stand) (b : ℕ) (t : Text) → length (adding q s b t) ≤ suc (length t)
+  adding-length outside b t = outside-length (eqb b (q .escape)) b t
+  adding-length begun b t = omega arith
+  adding-length (meaning x) b t = omega arith
+  adding-length wrong b t = omega arith
+
+  from-length : (s : Stand) (t : Text) → length (resolvedFrom q s t) ≤ length t
+  unfolding resolvedFrom
+  from-length s [] = omega arith
+  from-length s (b ∷ t) =
+      let n = next q s b in
+      omega (arith, adding-length s b (resolvedFrom q n t), from-length n t)
+
+  pub resolved-length : (t : Text) → length (resolved q t) ≤ length t
+  resolved-length t = from-length outside t
 
 -- the three answers of resolving
 module _ (q : Marks) (t : Text) (room : ℕ) where
@@ -281,8 +305,7 @@ module _ (q : Marks) (t before : Text) (u : q ≡ usual) where
   resolves-full n b e h =
       resolves t before (Refused NoRoom) before (refused NoRoom) (resolve-full usual t (length before) (rw u at b) (rw (e, u) at h)) refl refl
 
-  pub resolves-given : (n : ℕ) (after : Text) → badEscape q t ≡ false → n ≡ length (resolved q t) → n ≤ length before
-      → after ≡ resolved q t ++ drop (length (resolved q t)) before
-      → Resolves t before (Bytes n) after
-  resolves-given n after b e h s =
-      resolves t before (Bytes n) after (given (resolved usual t)) (resolve-given usual t (length before) (rw u at b) (rw (e, u) at h)) (ap given (rw u at e)) (rw u at s)
+  pub resolves-given : (n : ℕ) (after : Text) → badEscape q t ≡ false → Puts before 0 (resolved q t) after n → Resolves t before (Bytes n) after
+  resolves-given n after b p =
+      resolves t before (Bytes n) after (given (resolved usual t)) (resolve-given usual t (length before) (rw u at b) (rw u at (puts-front-room p)))
+      (ap given (rw u at (puts-front-ends p))) (rw u at (puts-front p))

@@ -2,7 +2,7 @@
 use mathlib.Core.Path.{_≡_, refl, sym, ap, _∙_}
 use Prim.Native.Nat.{ℕ, suc, _+_, _≤_, _<_}
 use native.Mathlib.Numerals.{add-one}
-use native.Mathlib.Nat.{add-zero, add-assoc}
+use native.Mathlib.Nat.{add-zero, zero-add, add-assoc}
 use native.Mathlib.Omega.{arith}
 use mathlib.Core.List.{[], _∷_, _++_, append-assoc, append-nil}
 use lib.ListN.{length, take, drop, set, length-append, length-drop, take-append-drop, getD}
@@ -64,3 +64,14 @@ pub puts-on : {before : Text} {at : ℕ} (t : Text) (i : ℕ) {mid : Text} {k : 
     → i < length t → k < length mid → Puts before at (take i t) mid k → Puts before at (take (i + 1) t) (set mid k (getD t i 0)) (k + 1)
 puts-on {before} {at} t i {mid} {k} h l p =
     rw (add-one i, take-suc t i 0) (puts-both p (puts-one mid k (getD t i 0) l))
+
+-- a text written to the front
+module _ {before t after : Text} {r : ℕ} (p : Puts before 0 t after r) where
+  pub puts-front-room : length t ≤ length before
+  puts-front-room = omega (arith, p .room)
+
+  pub puts-front-ends : r ≡ length t
+  puts-front-ends = omega (arith, p .ends)
+
+  pub puts-front : after ≡ t ++ drop (length t) before
+  puts-front = p .holds ∙ rw (zero-add (length t))

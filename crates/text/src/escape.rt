@@ -5,11 +5,11 @@ use crate::Written;
 use crate::usual_marks;
 ghost use mathlib.Core.Path.{_≡_};
 ghost use mathlib.Core.Bool.{false};
-ghost use mathlib.Core.List.{_++_};
-ghost use Prim.Native.Nat.{_≤_};
+ghost use Prim.Native.Nat.{_+_, _≤_};
 ghost use lib.ListN.{length, drop};
 ghost use Rattle.text.specs.Escape.{badEscape, resolved};
 ghost use Rattle.text.specs.Promise.{Resolves};
+ghost use Rattle.text.specs.Puts.{Puts};
 ghost use Rattle.text.specs.Step.{isLetter, isEscape};
 
 // Whether this is the letter of one of the five escapes.
@@ -62,7 +62,8 @@ pub fn bad_escape(q: Marks, t: &[u8]) -> bool
 }
 
 // How many bytes the resolved text has: with no bad escape, each \ that is read begins three bytes that stand for one.
-fn resolved_len(q: Marks, t: &[u8]) -> usize
+// Inner: the callers hold that there is no bad escape.
+pub fn resolved_len(q: Marks, t: &[u8]) -> usize
     requires { ⌜ badEscape q (now t) ≡ false ⌝ }
     ensures { λ r. ⌜ r ≡ length (resolved q (now (t .entry))) ⌝ }
 {
@@ -79,25 +80,26 @@ fn resolved_len(q: Marks, t: &[u8]) -> usize
     n
 }
 
-// Writes the resolved text to the front of the buffer.
-fn write_resolved(q: Marks, t: &[u8], buffer: &mut [u8])
-    requires { ⌜ (badEscape q (now t) ≡ false) × (length (resolved q (now t)) ≤ length (now buffer)) ⌝ }
-    ensures { λ _. ⌜ now (buffer .exit) ≡ resolved q (now (t .entry)) ++ drop (length (resolved q (now (t .entry)))) (now (buffer .entry)) ⌝ }
+// Puts the resolved text at a place, and answers where it ends. Inner: the callers hold that there is room and no bad escape.
+pub fn put_resolved(out: &mut [u8], at: usize, q: Marks, t: &[u8]) -> usize
+    requires { ⌜ (badEscape q (now t) ≡ false) × (at + length (resolved q (now t)) ≤ length (now out)) ⌝ }
+    ensures { λ r. ⌜ Puts (now (out .entry)) at (resolved q (now (t .entry))) (now (out .exit)) r ⌝ }
 {
-    let mut n = 0;
+    let mut to = at;
     let mut i = 0;
     while i < t.len() {
         let b = t[i];
         if b == q.escape {
-            buffer[n] = meant(q, t[i + 1]);
-            n += 1;
+            out[to] = meant(q, t[i + 1]);
+            to += 1;
             i += 3;
         } else {
-            buffer[n] = b;
-            n += 1;
+            out[to] = b;
+            to += 1;
             i += 1;
         }
     }
+    to
 }
 
 // Resolves a text with the usual separators into the buffer. Both tests are done before a byte is written.
@@ -108,10 +110,8 @@ pub fn resolve(text: &[u8], buffer: &mut [u8]) -> Written
     if bad_escape(q, text) {
         return Written::Refused(Refusal::BadEscape);
     }
-    let n = resolved_len(q, text);
-    if buffer.len() < n {
+    if buffer.len() < resolved_len(q, text) {
         return Written::Refused(Refusal::NoRoom);
     }
-    write_resolved(q, text, buffer);
-    Written::Bytes(n)
+    Written::Bytes(put_resolved(buffer, 0, q, text))
 }

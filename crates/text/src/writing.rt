@@ -38,9 +38,9 @@ fn spell(digits: &mut [u8], n: u64) -> usize
     i
 }
 
-// Puts a number's digits at a place, and answers where they end. There is room for 20, though they may be fewer.
+// Puts a number's digits at a place, and answers where they end.
 pub fn put_decimal(out: &mut [u8], at: usize, n: u64) -> usize
-    requires { ⌜ at + 20 ≤ length (now out) ⌝ }
+    requires { ⌜ at + length (decimal n) ≤ length (now out) ⌝ }
     ensures { λ r. ⌜ Puts (now (out .entry)) at (decimal n) (now (out .exit)) r ⌝ }
 {
     let mut digits = [0u8; 20];

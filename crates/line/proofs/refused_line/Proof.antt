@@ -1,10 +1,13 @@
 -- `refused_line`: three texts, one behind another.
 use native.Mathlib.Omega.{arith}
 use Rattle.text.proofs.Puts.{puts-both}
-use Rattle.text.proofs.Digits.{decimal-ends}
+use Rattle.text.proofs.Digits.{decimal-length, decimal-ends}
 use borrow.Author.Needs.{needs}
 use Rattle.line.proofs.refused_line.Statement.{statement}
 use Rattle.line.proofs.refused_line.Tie as tie
+
+put-decimal-requires : tie.Need-put-decimal-requires
+put-decimal-requires c κs = omega (arith, decimal-length (c .number .result))
 
 put-requires-2 : tie.Need-put-requires-2
 put-requires-2 c κs = omega (arith, decimal-ends _ (c .before .before .before .before .put-decimal .ensures))
@@ -24,7 +27,7 @@ refused-line-spec =
     (λ c κs. search needs)
     (λ c κs. search needs)
     (λ c. search needs)
-    (λ c κs. search needs)
+    put-decimal-requires
     (λ c. search needs)
     put-requires-2
     (λ c. search needs)

@@ -1,11 +1,14 @@
 -- `text_line`: five texts, one behind another.
 use native.Mathlib.Omega.{arith}
 use Rattle.text.proofs.Puts.{puts-length, puts-both}
-use Rattle.text.proofs.Digits.{decimal-ends}
+use Rattle.text.proofs.Digits.{decimal-length, decimal-ends}
 use Rattle.line.proofs.Lines.{text-written}
 use borrow.Author.Needs.{needs}
 use Rattle.line.proofs.text_line.Statement.{statement}
 use Rattle.line.proofs.text_line.Tie as tie
+
+put-decimal-requires : tie.Need-put-decimal-requires
+put-decimal-requires c κs = omega (arith, decimal-length (c .before .before .before .before .before .before .before .args .start))
 
 put-requires-2 : tie.Need-put-requires-2
 put-requires-2 c κs = omega (arith, decimal-ends _ (c .before .before .before .before .put-decimal .ensures))
@@ -13,7 +16,7 @@ put-requires-2 c κs = omega (arith, decimal-ends _ (c .before .before .before .
 put-decimal-requires-2 : tie.Need-put-decimal-requires-2
 put-decimal-requires-2 c κs =
     let s = c .before .before .before in
-    omega (arith, decimal-ends _ (s .before .before .before .before .before .put-decimal .ensures))
+    omega (arith, decimal-length (s .before .before .before .before .before .before .before .before .before .before .before .before .before .args .end), decimal-ends _ (s .before .before .before .before .before .put-decimal .ensures))
 
 put-requires-3 : tie.Need-put-requires-3
 put-requires-3 c κs =
@@ -42,7 +45,7 @@ text-line-spec =
     (tie.spec
     (λ c. search needs)
     (λ c κs. search needs)
-    (λ c κs. search needs)
+    put-decimal-requires
     (λ c. search needs)
     put-requires-2
     put-decimal-requires-2

@@ -1,5 +1,6 @@
 -- `resolve`: a bad escape, no room, or the resolved text.
 use mathlib.Core.Path.{sym, _∙_}
+use native.Mathlib.Omega.{arith}
 use borrow.Author.Needs.{needs}
 use Rattle.text.proofs.Escapes.{resolves-bad, resolves-full, resolves-given}
 use Rattle.text.proofs.escape.resolve.Statement.{statement}
@@ -24,21 +25,19 @@ returns-2 c =
     resolves-full (u .result) (a .text .now) (a .buffer .now) (u .ensures) (n .result) (sym (e .before .bad-escape .ensures) ∙ e .if1 .left) (n .ensures)
     (c .if2 .taken)
 
-write-resolved-requires : tie.Need-write-resolved-requires
-write-resolved-requires c κs =
+put-resolved-requires : tie.Need-put-resolved-requires
+put-resolved-requires c κs =
     let e = c .before .before .before in
     let n = c .before .before .resolved-len in
-    (sym (e .before .bad-escape .ensures) ∙ e .if1 .left, rw (n .ensures) at (c .before .if2 .left))
+    (sym (e .before .bad-escape .ensures) ∙ e .if1 .left, omega (arith, n .ensures, c .before .if2 .left))
 
 returns-3 : tie.Need-returns-3
 returns-3 c =
     let w = c .before .before in
     let e = w .before .before .before .before in
     let u = e .before .before .usual-marks in
-    let n = w .before .before .before .resolved-len in
     let a = e .before .before .before .before .before .args in
-    resolves-given (u .result) (a .text .now) (a .buffer .now) (u .ensures) (n .result) _ (sym (e .before .bad-escape .ensures) ∙ e .if1 .left) (n .ensures)
-    (w .before .before .if2 .left) (w .write-resolved .ensures)
+    resolves-given (u .result) (a .text .now) (a .buffer .now) (u .ensures) _ _ (sym (e .before .bad-escape .ensures) ∙ e .if1 .left) (w .put-resolved .ensures)
 
 pub resolve-spec : {M : Type 1} → statement M
 resolve-spec =
@@ -49,6 +48,6 @@ resolve-spec =
     returns
     resolved-len-requires
     returns-2
-    write-resolved-requires
+    put-resolved-requires
     (λ c. search needs)
     returns-3)

@@ -1,4 +1,4 @@
--- `write_resolved`: each step writes one byte.
+-- `put_resolved`: each step writes one byte.
 use Prim.Native.Nat.{_+_, _-_}
 use native.Mathlib.Omega.{arith}
 use borrow.Author.Needs.{needs}
@@ -7,23 +7,23 @@ use lib.ListN.{length, getD}
 use Rattle.text.specs.Escape.{outside, endsOutside}
 use Rattle.text.specs.Step.{meant}
 use Rattle.text.proofs.Escapes.{Goes, goes-byte, goes-good, Filled, filled-first, filled-room, filled-more, filled-all}
-use Rattle.text.proofs.escape.write_resolved.Statement.{statement}
-use Rattle.text.proofs.escape.write_resolved.Tie as tie
-use Rattle.text.proofs.escape.write_resolved.Reads as reads
-use Rattle.text.proofs.escape.write_resolved.Lts as lts
+use Rattle.text.proofs.escape.put_resolved.Statement.{statement}
+use Rattle.text.proofs.escape.put_resolved.Tie as tie
+use Rattle.text.proofs.escape.put_resolved.Reads as reads
+use Rattle.text.proofs.escape.put_resolved.Lts as lts
 use Rattle.text.proofs.escape.meant.Reads as meant-reads
 
 abbrev Inv-loop : tie.InvT-loop
-Inv-loop q t buffer₀ n₀ i₀ buffer n i = Filled q t buffer₀ buffer n i
+Inv-loop out₀ at q t to₀ i₀ out to i = Filled q t out₀ at out to i
 
 abbrev μ-loop : tie.MeasureT-loop
-μ-loop q t buffer₀ n₀ i₀ buffer n i = length t - i
+μ-loop out₀ at q t to₀ i₀ out to i = length t - i
 
 loop-holds : tie.Need-loop-holds Inv-loop μ-loop
 loop-holds c =
     let s = c .before .before in
     let a = s .args in
-    filled-first (a .q) (a .t .now) (a .buffer .now) (not-false (endsOutside (a .q) outside (a .t .now)) (s .pre .0)) (s .pre .1)
+    filled-first (a .q) (a .t .now) (a .out .now) (a .at) (not-false (endsOutside (a .q) outside (a .t .now)) (s .pre .0)) (s .pre .1)
 
 -- past an escape
 goes : (c : lts.Then1 (meant-reads.Asked, meant-reads.Learnt) reads.Pre reads.Post Inv-loop μ-loop)
@@ -38,13 +38,13 @@ goes c =
 shared-slice-read-meant : tie.Need-shared-slice-read-meant Inv-loop μ-loop
 shared-slice-read-meant c = let g = goes (c .before) in omega arith
 
-slice-write-buffer : tie.Need-slice-write-buffer Inv-loop μ-loop
-slice-write-buffer c =
+slice-write-out : tie.Need-slice-write-out Inv-loop μ-loop
+slice-write-out c =
     let l = c .before .before .before .before .before .before .loop in
-    filled-room _ _ _ (l .buffer) (l .n) (l .i) (l .inv) _ _ (goes (c .before .before))
+    filled-room _ _ _ _ (l .out) (l .to) (l .i) (l .inv) _ _ (goes (c .before .before))
 
-add-n : tie.Need-add-n Inv-loop μ-loop
-add-n c = let r = slice-write-buffer c in omega arith
+add-to : tie.Need-add-to Inv-loop μ-loop
+add-to c = let r = slice-write-out c in omega arith
 
 add-i : tie.Need-add-i Inv-loop μ-loop
 add-i c = let g = goes (c .before .before) in omega arith
@@ -55,7 +55,7 @@ loop-less c = let g = goes (c .before .before) in omega arith
 loop-again : tie.Need-loop-again Inv-loop μ-loop
 loop-again c =
     let l = c .before .before .before .before .before .before .loop in
-    rw (c .meant .ensures) (filled-more _ _ _ (l .buffer) (l .n) (l .i) (l .inv) _ _ (goes (c .before .before)))
+    rw (c .meant .ensures) (filled-more _ _ _ _ (l .out) (l .to) (l .i) (l .inv) _ _ (goes (c .before .before)))
 
 -- past a byte that is no \
 goes-2 : (c : lts.Else1 (meant-reads.Asked, meant-reads.Learnt) reads.Pre reads.Post Inv-loop μ-loop)
@@ -67,26 +67,26 @@ goes-2 c =
     let a = at .before .before .before .args in
     goes-byte (a .q) (a .t .now) (at .loop .i) (search needs) (c .if1 .left)
 
-slice-write-buffer-2 : tie.Need-slice-write-buffer-2 Inv-loop μ-loop
-slice-write-buffer-2 c =
+slice-write-out-2 : tie.Need-slice-write-out-2 Inv-loop μ-loop
+slice-write-out-2 c =
     let l = c .before .before .before .before .loop in
-    filled-room _ _ _ (l .buffer) (l .n) (l .i) (l .inv) _ _ (goes-2 c)
+    filled-room _ _ _ _ (l .out) (l .to) (l .i) (l .inv) _ _ (goes-2 c)
 
-add-n-2 : tie.Need-add-n-2 Inv-loop μ-loop
-add-n-2 c = let r = slice-write-buffer-2 c in omega arith
+add-to-2 : tie.Need-add-to-2 Inv-loop μ-loop
+add-to-2 c = let r = slice-write-out-2 c in omega arith
 
 loop-again-2 : tie.Need-loop-again-2 Inv-loop μ-loop
 loop-again-2 c =
     let l = c .before .before .before .before .loop in
-    filled-more _ _ _ (l .buffer) (l .n) (l .i) (l .inv) _ _ (goes-2 c)
+    filled-more _ _ _ _ (l .out) (l .to) (l .i) (l .inv) _ _ (goes-2 c)
 
 returns : tie.Need-returns Inv-loop μ-loop
 returns c =
     let l = c .before .loop in
-    filled-all _ _ _ (l .buffer) (l .n) (l .i) (l .inv) (c .loop-test .left)
+    filled-all _ _ _ _ (l .out) (l .to) (l .i) (l .inv) (c .loop-test .left)
 
-pub write-resolved-spec : {M : Type 1} → statement M
-write-resolved-spec =
+pub put-resolved-spec : {M : Type 1} → statement M
+put-resolved-spec =
     tie.close
     (tie.spec
     Inv-loop
@@ -96,13 +96,13 @@ write-resolved-spec =
     (λ c. search needs)
     shared-slice-read-meant
     (λ c κs. search needs)
-    slice-write-buffer
-    add-n
+    slice-write-out
+    add-to
     add-i
     loop-less
     loop-again
-    slice-write-buffer-2
-    add-n-2
+    slice-write-out-2
+    add-to-2
     (λ c. search needs)
     (λ c. search needs)
     loop-again-2
