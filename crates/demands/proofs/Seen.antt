@@ -1,12 +1,12 @@
 -- A struck segment is seen as the segment was.
-use mathlib.Core.Path.{_≡_, refl, sym, ap, subst, _∙_}
+use mathlib.Core.Path.{_≡_, refl, sym, ap, _∙_}
 use Prim.Native.Nat.{ℕ, suc}
 use native.Mathlib.Omega.{arith}
 use mathlib.Core.Bool.{Bool, true, false, not, _&&_, _||_}
 use mathlib.Core.List.{List, [], _∷_, flatMap}
 use lib.ListN.{length}
 use lib.Dec.{eqb, leb, ltb}
-use borrow.Author.Tests.{eq-eqb, eqb-true, leb-true, le-ltb}
+use borrow.Author.Tests.{eq-eqb, leb-true, le-ltb}
 use Rattle.text.specs.Bytes.{Text, pick, empty, some, keep, same}
 use Rattle.text.specs.declared.marks.Marks.{Marks}
 use Rattle.text.proofs.Tests.{not-true, both, same-true}
@@ -14,7 +14,8 @@ use Rattle.text.proofs.Lists.{All, and-both, or-left, or-right, all-map, all-bo
 use Rattle.parts.specs.Split.{split}
 use Rattle.parts.specs.Descent.{cut}
 use Rattle.frame.specs.Segments.{name, field, unsplit}
-use Rattle.profile.specs.Table.{Table, Leaf, Listed, leaf, named-by, Row, Rule, rule, gather, gathered, rulesOf, leavesIn}
+use Rattle.profile.specs.Table.{Table, Leaf, Listed, leaf, named-by, Usage, Row, Rule, rulesOf, leavesIn}
+use Rattle.profile.proofs.Gathered.{RowOk, RuleOk, gathered-all}
 use Rattle.reader.proofs.LeafByLeaf.{none-filled}
 use Rattle.reader.specs.Place.{leafOf, repetitions}
 use Rattle.reader.specs.View.{Field, entriesOf, filledFrom, namedIn, fieldSeen, segmentSeen}
@@ -51,30 +52,7 @@ module _ {A : Type 0} where
   some-kept k [] e = e
   some-kept k (x ∷ l) e = some-step k x l (k x) (some k l) refl (some-kept k l) e
 
--- 2. Rules made of rows
-module _ (K : ℕ → Listed → Type 0) (N : ℕ → Type 0) where
-  abbrev RowOk : Row → Type 0
-  RowOk r = K (r .field) (r .lists) × N (r .field) × (leb 1 (r .repetitions) ≡ true)
-
-  abbrev RuleOk : Rule → Type 0
-  RuleOk u = All (K (u .field)) (u .lists) × N (u .field) × (leb 1 (u .repetitions) ≡ true)
-
-  join-step : (r : Row) (u : Rule) (us : List Rule) (b : Bool) → eqb (r .field) (u .field) ≡ b → RowOk r → RuleOk u → All RuleOk us
-      → All RuleOk (pick b (rule r (r .lists ∷ u .lists) ∷ us) (rule r (r .lists ∷ []) ∷ u ∷ us))
-  join-step r u us true e a b c =
-      (((a .0, subst (λ (f : ℕ). All (K f) (u .lists)) (sym (eqb-true (r .field) (u .field) e)) (b .0)), a .1, a .2), c)
-  join-step r u us false e a b c = (((a .0, tt), a .1, a .2), (b, c))
-
-  gather-step : (r : Row) (us : List Rule) → RowOk r → All RuleOk us → All RuleOk (gather r us)
-  gather-step r [] a c = (((a .0, tt), a .1, a .2), tt)
-  gather-step r (u ∷ us) a c = join-step r u us (eqb (r .field) (u .field)) refl a (c .0) (c .1)
-
-  pub gathered-all : (rs : List Row) → All RowOk rs → All RuleOk (gathered rs)
-  unfolding gathered
-  gathered-all [] a = tt
-  gathered-all (r ∷ rs) a = gather-step r (gathered rs) (a .0) (gathered-all rs (a .1))
-
--- 3. A leaf with a row is listed
+-- 2. A leaf with a row is listed
 lists-leaf : (T : Table) (names : ℕ → Text) (c : ℕ) (x : Listed) → listsComponent c x ≡ true
     → some (λ (l : Leaf). eqb (l .component) c && eqb (l .subcomponent) 1) (leavesIn T names x) ≡ true
 unfolding some
@@ -93,7 +71,7 @@ has-row T q s f c h =
     and-both (k r) (some g (leavesIn T (namedIn q s) (r .lists))) (w .0) (lists-leaf T (namedIn q s) c (r .lists) (w .1)))
     (T .rows) h)
 
--- 4. The rows of a segment, before and after
+-- 3. The rows of a segment, before and after
 module _ (T : Table) (q : Marks) (s : Text) where
   abbrev before : ℕ → Text
   before f = namedIn q s f
@@ -109,6 +87,10 @@ module _ (T : Table) (q : Marks) (s : Text) where
 
   abbrev Has : ℕ → Type 0
   Has f = hasField T (name s) f ≡ true
+
+  -- its field is listed, and may stand once at least
+  abbrev Says : ℕ → Usage → ℕ → Type 0
+  Says f u k = Has f × (leb 1 k ≡ true)
 
   same-leaves : (x : Listed) → namerListed T (name s) x ≡ true → leavesIn T after x ≡ leavesIn T before x
   same-leaves (leaf l) e = refl
@@ -140,7 +122,7 @@ module _ (T : Table) (q : Marks) (s : Text) where
   abbrev Fit : Row → Type 0
   Fit r = rowFit T r ≡ true
 
-  row-ok : (r : Row) → (Fit r × Told (T .rows) r) × (same (r .segment) (name s) ≡ true) → RowOk Lists Has r
+  row-ok : (r : Row) → (Fit r × Told (T .rows) r) × (same (r .segment) (name s) ≡ true) → RowOk Lists Says r
   row-ok r h =
       let w = both (mayRepeat r) (namerListed T (r .segment) (r .lists)) (h .0 .0) in
       let e = h .1 in (
@@ -150,16 +132,15 @@ module _ (T : Table) (q : Marks) (s : Text) where
               (λ (l : Leaf). hasLeaf (leavesAt T q s (r .field)) (l .component) (l .subcomponent) ≡ true)
               (row-leaf r e (h .0 .1)) (leavesIn T before (r .lists)) (all-told (leavesIn T before (r .lists))),
         ),
-        row-field r e (h .0 .1),
-        w .0,
+        (row-field r e (h .0 .1), w .0),
       )
 
-  pub rules-ok : fit T ≡ true → All (RuleOk Lists Has) (rulesOf T (name s))
+  pub rules-ok : fit T ≡ true → All (RuleOk Lists Says) (rulesOf T (name s))
   unfolding fit rulesOf
   rules-ok ok =
       let named : Row → Bool = λ r. same (r .segment) (name s) in
-      gathered-all Lists Has (keep named (T .rows))
-      (all-map (λ r. (Fit r × Told (T .rows) r) × (named r ≡ true)) (RowOk Lists Has) row-ok (keep named (T .rows))
+      gathered-all Lists Says (keep named (T .rows))
+      (all-map (λ r. (Fit r × Told (T .rows) r) × (named r ≡ true)) (RowOk Lists Says) row-ok (keep named (T .rows))
       (all-both (λ r. Fit r × Told (T .rows) r) (λ r. named r ≡ true) (keep named (T .rows))
       (all-keep (λ r. Fit r × Told (T .rows) r) named (T .rows)
       (all-both Fit (Told (T .rows)) (T .rows)
@@ -167,7 +148,7 @@ module _ (T : Table) (q : Marks) (s : Text) where
       (all-told (T .rows))))
       (all-kept named (T .rows))))
 
--- 5. The repetitions of a field, before and after
+-- 4. The repetitions of a field, before and after
 module _ (q : Marks) where
   abbrev reps : Bool → Text → List Text
   reps w t = pick (empty t) [] (cut w (q .repetition) t)
@@ -228,7 +209,7 @@ module _ (T : Table) (q : Marks) (s : Text) (f : ℕ) (has : hasField T (name s)
         ∙ filled-change 1 (split (q .repetition) t)
         ∙ sym (filled-all q ls 1 t)
 
--- 6. A field, a segment
+-- 5. A field, a segment
 module _ (T : Table) (q : Marks) (s : Text) where
   abbrev shown : Rule → List Leaf → Bool → Text → Field
   shown u ls w t =
@@ -260,11 +241,11 @@ module _ (T : Table) (q : Marks) (s : Text) where
       all-flatMap (λ (l : Leaf). hasLeaf (leavesAt T q s f) (l .component) (l .subcomponent) ≡ true) (leavesIn T (before T q s)) xs
       (all-map (Lists T q s f) (λ x. All (λ (l : Leaf). hasLeaf (leavesAt T q s f) (l .component) (l .subcomponent) ≡ true) (leavesIn T (before T q s) x)) (λ x h. h .1) xs a)
 
-  pub field-same : (u : Rule) → RuleOk (Lists T q s) (Has T q s) u → fieldSeen T q (strikeSegment T q s) u ≡ fieldSeen T q s u
+  pub field-same : (u : Rule) → RuleOk (Lists T q s) (Says T q s) u → fieldSeen T q (strikeSegment T q s) u ≡ fieldSeen T q s u
   unfolding fieldSeen repetitions
   field-same u h =
       rw (field-struck T q s (u .field), unsplit-struck T q s (u .field), lists-same (u .field) (u .lists) (h .0))
-      (shown-same u (flatMap (leavesIn T (before T q s)) (u .lists)) (unsplit s (u .field)) (field q s (u .field)) (h .1) (h .2)
+      (shown-same u (flatMap (leavesIn T (before T q s)) (u .lists)) (unsplit s (u .field)) (field q s (u .field)) (h .1 .0) (h .1 .1)
       (lists-listed (u .field) (u .lists) (h .0)))
 
   -- THE SEGMENT IS SEEN AS IT WAS
@@ -274,5 +255,5 @@ module _ (T : Table) (q : Marks) (s : Text) where
       rw (name-struck T q s)
       (ap (λ (vs : List Field). record { name = name s; fields = vs })
       (map-same (fieldSeen T q (strikeSegment T q s)) (fieldSeen T q s) (rulesOf T (name s))
-      (all-map (RuleOk (Lists T q s) (Has T q s)) (λ u. fieldSeen T q (strikeSegment T q s) u ≡ fieldSeen T q s u) field-same
+      (all-map (RuleOk (Lists T q s) (Says T q s)) (λ u. fieldSeen T q (strikeSegment T q s) u ≡ fieldSeen T q s u) field-same
       (rulesOf T (name s)) (rules-ok T q s ok))))

@@ -31,7 +31,7 @@ none-step : (b r : Bool) (p : Place) (n : ℕ) (v : Verdict) → (v ≡ accepted
 none-step true r p n v h e = absurd (let z : _≡_ {A = ℕ} 0 1 = cc in omega arith)
 none-step false r p n v h e = h e
 
-accepted-none : (cs : List Check) → firstBroken cs ≡ accepted → noneBroken cs ≡ true
+pub accepted-none : (cs : List Check) → firstBroken cs ≡ accepted → noneBroken cs ≡ true
 unfolding firstBroken every
 accepted-none [] e = refl
 accepted-none (c ∷ cs) e = none-step (c .broken) (noneBroken cs) (c .place) (c .reason) (firstBroken cs) (accepted-none cs) e

@@ -4,7 +4,8 @@ use Prim.Native.Nat.{ℕ}
 use native.Mathlib.Omega.{arith}
 use mathlib.Core.Bool.{Bool, true, false}
 use mathlib.Core.List.{List, [], _∷_, _++_, append-nil}
-use lib.ListN.{getD, take, drop}
+use lib.ListN.{length, getD, take, drop}
+use borrow.Author.Tests.{le-ltb}
 use Rattle.text.specs.Bytes.{Text, pick, bytes, cr, some, keep, same, within}
 use Rattle.text.specs.Answer.{Answer, refused, given, Test, first, passes}
 use Rattle.text.specs.Marks.{marksOf}
@@ -12,12 +13,12 @@ use Rattle.text.specs.declared.refusal.Refusal.{Refusal}
 use Rattle.text.proofs.Tests.{same-true}
 use Rattle.text.proofs.Answer.{first-refused, first-given}
 use Rattle.parts.specs.Split.{closed}
-use Rattle.frame.specs.Segments.{segments, name}
+use Rattle.frame.specs.Segments.{segments, name, ofName, fewer}
 use Rattle.frame.specs.Frame.{header, frameTests, framed}
 use Rattle.frame.specs.Told.{framingOf}
 use Rattle.frame.specs.declared.checks.Framing.{Framing}
 use Rattle.frame.specs.declared.checks.Framing.the-variants as framing
-use Rattle.frame.proofs.Frame.{Framed, framed-tests, closed-segments}
+use Rattle.frame.proofs.Frame.{framed-tests, closed-segments}
 use Rattle.profile.specs.Table.{Table, isListed, mayFollow}
 use Rattle.profile.specs.Numbers.{Tells, tableOf, numberIn, segmentNumber}
 use Rattle.profile.specs.Order.{Sound}
@@ -45,17 +46,26 @@ headed-text (a ∷ []) e = absurd (let z : _≡_ {A = ℕ} 0 1 = cc in omega ari
 headed-text (a ∷ b ∷ []) e = absurd (let z : _≡_ {A = ℕ} 0 1 = cc in omega arith)
 headed-text (a ∷ b ∷ c ∷ m) e = cc
 
+-- the first segment of a message with a good frame is its header
+pub header-opens : (m : Text) → framed m ≡ true
+    → (segments m ≡ getD (segments m) 0 [] ∷ drop 1 (segments m)) × (name (getD (segments m) 0 []) ≡ bytes "MSH")
+header-opens m good =
+    let tests = framed-tests m good in
+    headed-first (drop 3 m) (segments m)
+    (closed-segments m (tests .closed-by-CR) ∙ headed-text m (same-true (take 9 m) (header (marksOf m)) (tests .headed)))
+
+-- it has a header
+pub header-there : (m : Text) → framed m ≡ true → fewer m (bytes "MSH") 1 ≡ false
+unfolding keep same
+header-there m good =
+    let opening = header-opens m good in
+    let first : ofName (bytes "MSH") (segments m) ≡ getD (segments m) 0 [] ∷ ofName (bytes "MSH") (drop 1 (segments m)) =
+    ap (ofName (bytes "MSH")) (opening .0) ∙ rw (opening .1) in
+    le-ltb (length (ofName (bytes "MSH") (segments m))) 1 (omega (arith, ap length first))
+
 module _ (t : List ℕ) (m : Text) (sound : Sound t) (good : framed m ≡ true) where
   abbrev T : Table
   T = tableOf t
-
-  tests : Framed m
-  tests = framed-tests m good
-
-  opening : (segments m ≡ getD (segments m) 0 [] ∷ drop 1 (segments m)) × (name (getD (segments m) 0 []) ≡ bytes "MSH")
-  opening =
-      headed-first (drop 3 m) (segments m)
-      (closed-segments m (tests .closed-by-CR) ∙ headed-text m (same-true (take 9 m) (header (marksOf m)) (tests .headed)))
 
   header-listed : isListed T (bytes "MSH") ≡ true
   unfolding numberIn same
@@ -64,6 +74,7 @@ module _ (t : List ℕ) (m : Text) (sound : Sound t) (good : framed m ≡ true) 
   listed-first : listedSegments T m ≡ getD (segments m) 0 [] ∷ keep (λ s. isListed T (name s)) (drop 1 (segments m))
   unfolding keep
   listed-first =
+      let opening = header-opens m good in
       ap (keep (λ s. isListed T (name s))) (opening .0) ∙ rw (opening .1, header-listed)
 
   -- there is one
@@ -75,7 +86,7 @@ module _ (t : List ℕ) (m : Text) (sound : Sound t) (good : framed m ≡ true) 
     named-header =
         let f = listed-first in
         let e : within start end m ≡ getD (segments m) 0 [] = cc (next .first) in
-        ap name e ∙ opening .1
+        ap name e ∙ header-opens m good .1
 
     -- it is the header
     pub headed-here : Here m start end 1

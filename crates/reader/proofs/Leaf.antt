@@ -55,7 +55,7 @@ within-behind m start end k =
     rw (e, ← drop-drop k start m) (sym (drop-take k (end - start) (drop start m)))
 
 -- nothing stands in no bytes
-piece-nil : (sep n : ℕ) → piece n (split sep []) ≡ []
+pub piece-nil : (sep n : ℕ) → piece n (split sep []) ≡ []
 unfolding split
 piece-nil sep zero = refl
 piece-nil sep (suc zero) = refl

@@ -16,4 +16,10 @@ pub mod Walking
 pub mod Halted
 pub mod Headed
 pub mod Accepted
+pub mod Members
+pub mod AcceptedLeaf
+pub mod AcceptedRows
 pub mod Unique
+pub mod Copied
+pub mod Plain
+pub mod Patient

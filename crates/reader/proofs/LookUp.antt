@@ -39,7 +39,7 @@ use Rattle.reader.specs.Inner.{Inside}
 use Rattle.reader.specs.Part.{VeryPart, startOf, endOf}
 use Rattle.reader.specs.Place.{Place, isPlace, leafAt, leafStart, textAt, startAt}
 
-leaf-stands : (q : Marks) (s : Text) (f r c b : ℕ) → Stands s (leafStart q s f r c b) (leafAt q s f r c b)
+pub leaf-stands : (q : Marks) (s : Text) (f r c b : ℕ) → Stands s (leafStart q s f r c b) (leafAt q s f r c b)
 unfolding leafAt leafStart
 leaf-stands q s f r c b =
     let t = field q s f in

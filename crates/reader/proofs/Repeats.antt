@@ -50,7 +50,7 @@ unfolding some
 late-step true k es rs h e = rw (ne-eqb k 1 (omega arith)) e
 late-step false k es rs h e = e
 
-late-none : (k : ℕ) (read : Text → List Entry) (ts : List Text) → 1 < k → startsFilled (filledFrom k read ts) ≡ false
+pub late-none : (k : ℕ) (read : Text → List Entry) (ts : List Text) → 1 < k → startsFilled (filledFrom k read ts) ≡ false
 unfolding filledFrom some
 late-none k read [] h = refl
 late-none k read (t ∷ ts) h =

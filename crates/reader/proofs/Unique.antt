@@ -39,7 +39,7 @@ pub record SamePart (r s : RefT Text) : Type 0 where
   pub block : r .ptr .0 ≡ s .ptr .0
   pub offset : r .ptr .1 ≡ s .ptr .1
 
-part-same : (r s m : RefT Text) (a e : ℕ) → VeryPart r m a e → VeryPart s m a e → SamePart r s
+pub part-same : (r s m : RefT Text) (a e : ℕ) → VeryPart r m a e → VeryPart s m a e → SamePart r s
 part-same r s m a e p q =
     record { bytes = p .bytes ∙ sym (q .bytes); block = p .block ∙ sym (q .block); offset = p .offset ∙ sym (q .offset) }
 

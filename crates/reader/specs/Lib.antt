@@ -5,6 +5,7 @@ pub mod Fault
 pub mod Told
 pub mod Part
 pub mod Promise
+pub mod Copied
 pub mod Inner
 pub mod Judged
 pub mod Onward

@@ -9,6 +9,7 @@ mod repetition;
 mod rule;
 mod search;
 mod segment;
+mod texts;
 mod walk;
 
 pub use conditions::condition;
@@ -18,6 +19,7 @@ pub use search::LookedUp;
 pub use search::find;
 pub use search::look_up;
 use text::Refusal;
+pub use texts::text_in;
 
 // A place: the name's three bytes, and the numbers as they are asked, of any size.
 pub struct Place {

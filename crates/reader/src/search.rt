@@ -55,7 +55,7 @@ pub fn find(m: &[u8], p: Place) -> Found
 }
 
 // The very part of the message that was found: no bytes, at its start, where it is no text.
-fn text_of<'a>(m: &'a [u8], f: Found) -> &'a [u8]
+pub fn text_of<'a>(m: &'a [u8], f: Found) -> &'a [u8]
     requires { ⌜ Inside f (length (now m)) ⌝ }
     ensures { λ r. ⌜ VeryPart r (m .entry) (startOf f) (endOf f) ⌝ }
 {
