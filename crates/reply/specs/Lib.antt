@@ -1,1 +1,3 @@
 pub mod Reply
+pub mod Promise
+pub mod Inner

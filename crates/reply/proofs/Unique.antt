@@ -1,0 +1,11 @@
+-- What a reply promises leaves one answer and one buffer.
+use mathlib.Core.Path.{_≡_, sym, _∙_}
+use Rattle.text.specs.Bytes.{Text}
+use Rattle.text.specs.declared.Written.{Written}
+use Rattle.text.proofs.Unique.{written-same}
+use Rattle.reply.specs.Promise.{Replies}
+
+pub reply-unique : (m stamp number before : Text) (r r' : Written) (after after' : Text)
+    → Replies m stamp number before r after → Replies m stamp number before r' after' → (r ≡ r') × (after ≡ after')
+reply-unique m stamp number before r r' after after' p p' =
+    (written-same r r' (p .answer ∙ sym (p' .answer)), p .buffer ∙ sym (p' .buffer))

@@ -1,0 +1,164 @@
+-- The whole reply: its segments one behind another, and which answer each way out gives.
+use mathlib.Core.Path.{_≡_, refl, sym, ap, _∙_}
+use Prim.Native.Nat.{ℕ, _+_, _-_, _≤_, _<_}
+use native.Mathlib.Omega.{arith}
+use mathlib.Core.Bool.{Bool, true, false, not}
+use mathlib.Core.List.{List, [], _∷_, _++_, append-assoc, append-nil}
+use lib.ListN.{length, length-append}
+use lib.Dec.{ltb}
+use borrow.Author.Tests.{lt-ltb, le-ltb, not-true, not-false}
+use Rattle.text.specs.Bytes.{Text, pick, bytes, cr, within}
+use Rattle.text.specs.Types.{isStamp, isReplyNumber}
+use Rattle.text.specs.Answer.{Answer, refused, given, first, tell}
+use Rattle.text.specs.Puts.{Puts}
+use Rattle.text.specs.Marks.{usual, marksOf}
+use Rattle.text.specs.declared.Written.{Written}
+use Rattle.text.specs.declared.Written.the-variants as written
+use Rattle.text.specs.declared.refusal.Refusal.{Refusal}
+use Rattle.text.specs.declared.refusal.Refusal.the-variants.{BadStamp, BadReplyNumber, NoControlNumber, NoRoom}
+use Rattle.text.proofs.Answer.{first-passed, first-refused, first-given, given-passes, tell-first}
+use Rattle.text.proofs.Puts.{puts-length, puts-head, puts-both, puts-front-room, puts-front-ends, puts-front}
+use Rattle.parts.specs.Split.{led, join, closed}
+use Rattle.frame.specs.Frame.{frameTests, framed}
+use Rattle.frame.specs.declared.segment.Standing.{Standing}
+use Rattle.profile.specs.Profile.{profile01}
+use Rattle.reader.specs.declared.Verdict as code-verdict
+use Rattle.reader.specs.declared.Verdict.the-variants as code
+use Rattle.reader.specs.Place.{leafAt}
+use Rattle.reader.specs.Copied.{segmentText}
+use Rattle.reader.specs.Fault.{Verdict, accepted, fault, verdict, judge}
+use Rattle.reader.specs.Told.{placeOf, verdictOf}
+use Rattle.reply.specs.Reply as spec
+use Rattle.reply.specs.Reply.{control, noControl, replyHeader, replyMSA, replyERR, replyText}
+use Rattle.reply.specs.Inner.{IsHeader, ended, codeOf, errorOf, ownTests, ownReply, Acknowledges}
+use Rattle.reply.specs.Promise.{Replies}
+use Rattle.reply.proofs.Heading.{leaf-copied}
+use Rattle.reply.proofs.Bound.{reply-bound}
+
+-- the control number is put as it is copied from the header
+pub control-put : (m : Text) (s : Standing) (t : Text) {before : Text} {at : ℕ} {after : Text} {r : ℕ} → IsHeader m s
+    → t ≡ leafAt (marksOf m) (segmentText m s) 10 1 1 1 → Puts before at t after r → Puts before at (control m) after r
+control-put m s t h e p = rw (leaf-copied m s h 10 1 t e) at p
+
+-- the header, MSA and what follows it
+msa-step : (h a k : Text) (es : List Text)
+    → (h ++ cr ∷ []) ++ ((bytes "MSA|" ++ ended a) ++ (k ++ (cr ∷ closed cr es))) ≡ closed cr (h ∷ join (usual .field) (bytes "MSA" ∷ a ∷ k ∷ []) ∷ es)
+unfolding closed join led
+msa-step h a k es =
+    simp (append-assoc, append-nil)
+    (ap (λ (l : Text). h ++ ((cr ∷ bytes "MSA|") ++ l)) (sym (append-assoc a (usual .field ∷ k) (cr ∷ closed cr es))))
+
+closed-none : closed cr [] ≡ []
+unfolding closed
+closed-none = refl
+
+segments-written : (h m : Text) (v : code-verdict.Verdict) (w : Verdict) → verdictOf v ≡ given w
+    → (h ++ cr ∷ []) ++ (codeOf v ++ (control m ++ (cr ∷ errorOf v))) ≡ closed cr (h ∷ replyMSA m w ∷ replyERR w)
+segments-written h m (code.Refused r) w e = absurd (let z : _≡_ {A = ℕ} 0 1 = cc in omega arith)
+segments-written h m code.Accepted w e =
+    let n : accepted ≡ w = cc in
+    rw (← n) (rw closed-none at (msa-step h (bytes "AA") (control m) []))
+segments-written h m (code.Fault f) w e =
+    let n : fault (placeOf (f .place)) (f .reason) ≡ w = cc in
+    rw (← n) (msa-step h (spec.code (fault (placeOf (f .place)) (f .reason))) (control m) (replyERR (fault (placeOf (f .place)) (f .reason))))
+
+module _ (m stamp number : Text) (v : code-verdict.Verdict) (e : verdictOf v ≡ given (verdict profile01 m)) where
+  reply-written : (replyHeader m stamp number ++ cr ∷ []) ++ (codeOf v ++ (control m ++ (cr ∷ errorOf v))) ≡ replyText profile01 m stamp number
+  unfolding replyText
+  reply-written = segments-written (replyHeader m stamp number) m v (verdict profile01 m) e
+
+  pub reply-length : length (replyText profile01 m stamp number)
+      ≡ length (replyHeader m stamp number ++ cr ∷ []) + (length (codeOf v) + (length (control m) + (1 + length (errorOf v))))
+  reply-length =
+      omega (
+        arith,
+        ap length (sym reply-written),
+        length-append (replyHeader m stamp number ++ cr ∷ []) (codeOf v ++ (control m ++ (cr ∷ errorOf v))),
+        length-append (codeOf v) (control m ++ (cr ∷ errorOf v)),
+        length-append (control m) (cr ∷ errorOf v),
+      )
+
+  -- behind the header there is room for the rest, and the rest makes the reply
+  module _ {before mid : Text} {k : ℕ} (p : Puts before 0 (replyHeader m stamp number ++ cr ∷ []) mid k) where
+    pub reply-room : length (replyText profile01 m stamp number) ≤ length before
+        → k + (length (codeOf v) + (length (control m) + (1 + length (errorOf v)))) ≤ length mid
+    reply-room h = omega (arith, reply-length, p .ends, puts-length p)
+
+    pub reply-put : {after : Text} {r : ℕ} → Puts mid k (codeOf v ++ (control m ++ (cr ∷ errorOf v))) after r
+        → Puts before 0 (replyText profile01 m stamp number) after r
+    reply-put q = rw reply-written at (puts-both p q)
+
+-- THE WAYS OUT where the frame is good
+module _ (m stamp number before : Text) where
+  abbrev t : Text
+  t = replyText profile01 m stamp number
+
+  abbrev own : Answer Text
+  own = ownReply m stamp number (length before)
+
+  own-refused : (x : Refusal) → own ≡ refused x → Acknowledges m stamp number before (written.Refused x) before
+  own-refused x e = record { answer = rw e; buffer = rw e }
+
+  module _ {s : Bool} (told : s ≡ isStamp stamp) where
+    pub acknowledges-stamp : not s ≡ true → Acknowledges m stamp number before (written.Refused BadStamp) before
+    unfolding first
+    acknowledges-stamp h = own-refused BadStamp (rw (← told, not-true s h))
+
+    module _ (stamped : not s ≡ false) {n : Bool} (told-n : n ≡ isReplyNumber number) where
+      pub acknowledges-number : not n ≡ true → Acknowledges m stamp number before (written.Refused BadReplyNumber) before
+      unfolding first
+      acknowledges-number h = own-refused BadReplyNumber (rw (← told, not-false s stamped, ← told-n, not-true n h))
+
+      module _ (numbered : not n ≡ false) {k : Bool} (told-k : k ≡ noControl m) where
+        pub acknowledges-control : k ≡ true → Acknowledges m stamp number before (written.Refused NoControlNumber) before
+        unfolding first
+        acknowledges-control h = own-refused NoControlNumber (rw (← told, not-false s stamped, ← told-n, not-false n numbered, ← told-k, h))
+
+        module _ (controlled : k ≡ false) where
+          -- room for every reply
+          pub acknowledges-room : length t ≤ 1200
+          acknowledges-room =
+              reply-bound m stamp number (sym told ∙ not-false s stamped) (sym told-n ∙ not-false n numbered) (sym told-k ∙ controlled)
+
+          passed : own ≡ pick (ltb (length before) (length t)) (refused NoRoom) (given t)
+          unfolding first
+          passed = rw (← told, not-false s stamped, ← told-n, not-false n numbered, ← told-k, controlled)
+
+          -- the reply as it is written aside, and then to the front of the buffer
+          module _ {out out' : Text} {r : ℕ} (aside : Puts out 0 t out' r) where
+            pub acknowledges-full : length before < r → Acknowledges m stamp number before (written.Refused NoRoom) before
+            acknowledges-full h =
+                own-refused NoRoom (passed ∙ rw (lt-ltb (length before) (length t) (omega (arith, puts-front-ends aside))))
+
+            pub acknowledges-given : {e : ℕ} {after : Text} → Puts before 0 (within 0 r out') after e
+                → Acknowledges m stamp number before (written.Bytes e) after
+            acknowledges-given {e} {after} copied =
+                let z : r - 0 ≡ r = omega arith in
+                let p : Puts before 0 t after e = rw (z, puts-head aside) at copied in
+                let g : own ≡ given t = passed ∙ rw (le-ltb (length before) (length t) (puts-front-room p)) in
+                record { answer = rw g (ap given (puts-front-ends p)); buffer = rw g (puts-front p) }
+
+-- THE REPLY, by the verdict
+module _ (m : Text) (v : code-verdict.Verdict) (judged : verdictOf v ≡ judge profile01 m) where
+  pub judged-good : (w : Verdict) → verdictOf v ≡ given w → (framed m ≡ true) × (verdictOf v ≡ given (verdict profile01 m))
+  unfolding judge
+  judged-good w e =
+      let f = given-passes (frameTests m) (verdict profile01 m) w (sym judged ∙ e) in
+      (f, judged ∙ first-given (frameTests m) (verdict profile01 m) f)
+
+  module _ (stamp number before : Text) where
+    pub replies-refused : (x : Refusal) → v ≡ code.Refused x → Replies m stamp number before (written.Refused x) before
+    unfolding judge spec.reply
+    replies-refused x e =
+        let g : refused x ≡ first (frameTests m) (tt {0}) =
+        ap (λ (a : Answer Verdict). tell (λ w. tt {0}) a) (ap verdictOf (sym e) ∙ judged) ∙ tell-first (λ w. tt {0}) (frameTests m) (verdict profile01 m)
+        in
+        let l = first-refused (frameTests m) (ownTests m stamp number (length before)) (replyText profile01 m stamp number) x g in
+        record { answer = rw (← l); buffer = rw (← l) }
+
+    pub replies-given : (w : Verdict) → verdictOf v ≡ given w → {r : Written} {after : Text} → Acknowledges m stamp number before r after
+        → Replies m stamp number before r after
+    unfolding spec.reply
+    replies-given w e {r} {after} a =
+        let l = first-passed (frameTests m) (ownTests m stamp number (length before)) (replyText profile01 m stamp number) (judged-good w e .0) in
+        record { answer = rw l (a .answer); buffer = rw l (a .buffer) }

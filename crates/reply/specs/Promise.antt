@@ -1,0 +1,13 @@
+-- What a reply promises.
+use mathlib.Core.Path.{_≡_}
+use lib.ListN.{length}
+use Rattle.text.specs.Bytes.{Text}
+use Rattle.text.specs.Answer.{bufferAfter, reported, writtenOf}
+use Rattle.text.specs.declared.Written.{Written}
+use Rattle.profile.specs.Profile.{profile01}
+use Rattle.reply.specs.Reply.{reply}
+
+-- THE REPLY to m, with that stamp and reply number, into a buffer that held `before`: the answer, and what the buffer holds afterwards
+pub record Replies (m stamp number before : Text) (r : Written) (after : Text) : Type 0 where
+  pub answer : writtenOf r ≡ reported (reply profile01 m stamp number (length before))
+  pub buffer : after ≡ bufferAfter (reply profile01 m stamp number (length before)) before
