@@ -2,3 +2,6 @@ pub mod Slip
 pub mod Book
 pub mod Read
 pub mod Told
+pub mod Promise
+pub mod RoundTrip
+pub mod Inner

@@ -59,8 +59,10 @@ slipValues m g =
 abbrev pub slotSize : ℕ
 slotSize = 1024
 
--- THE SLIP: its fields, and zeros to the end of the slot
+-- the fields one after another, and zeros to the end of the slot
+unfoldable pub slipOf : List Tagged → Text
+slipOf fs = let t = flatMap tagBytes fs in t ++ replicate (slotSize - length t) 0
+
+-- THE SLIP of group g
 unfoldable pub slipText : Text → ℕ → Text
-slipText m g =
-    let t = flatMap tagBytes (slipValues m g) in
-    t ++ replicate (slotSize - length t) 0
+slipText m g = slipOf (slipValues m g)

@@ -1,4 +1,5 @@
 -- What each case of an answer tells: 01's number and values.
+use Prim.Native.Nat.{ℕ}
 use Rattle.text.specs.Answer.{Answer, refused, given, tell}
 use Rattle.text.specs.Bytes.{Text}
 use Rattle.slip.specs.declared.Filed as code-filed
@@ -16,3 +17,12 @@ filedOf code-filed.the-variants.Slip = given tt
 abbrev pub valueOf : code-value.Value → Answer Part
 valueOf (code-value.the-variants.Refused r) = refused r
 valueOf (code-value.the-variants.Part a e) = given (record { start = a; end = e })
+
+-- the part that an answer names: of a refusal, no bytes at the book's start
+abbrev pub startOf : code-value.Value → ℕ
+startOf (code-value.the-variants.Refused r) = 0
+startOf (code-value.the-variants.Part a e) = a
+
+abbrev pub endOf : code-value.Value → ℕ
+endOf (code-value.the-variants.Refused r) = 0
+endOf (code-value.the-variants.Part a e) = e

@@ -1,4 +1,12 @@
-// The slip book: what it answers, and its definitions.
+// The slip book: filing a group's slip, and reading a slip's values.
+mod filing;
+mod filling;
+mod reading;
+
+pub use filing::file;
+pub use reading::SlipValue;
+pub use reading::find_value;
+pub use reading::read_slip;
 use text::Refusal;
 
 // A slip filed, or why not.

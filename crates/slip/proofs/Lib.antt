@@ -1,0 +1,16 @@
+pub mod Fitting
+pub mod Count
+pub mod Leaves
+pub mod Accepted
+pub mod FillSlip
+pub mod Groups
+pub mod GroupSlip
+pub mod Answers
+pub mod ReadSlip
+pub mod Resolved
+pub mod Slots
+pub mod Fields
+pub mod Whole
+pub mod RoundTrip
+pub mod ReadBack
+pub mod Unique
