@@ -49,3 +49,8 @@ newline = 0x0A
 
 abbrev pub ended : Text → Text
 ended t = t ++ newline ∷ []
+
+-- REPLYING: the reply as it is, CR and all; or refused and the number
+abbrev pub answerText : Answer Text → Text
+answerText (refused r) = ended (refusedLine r)
+answerText (given t) = t

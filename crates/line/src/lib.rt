@@ -10,8 +10,10 @@ ghost use Rattle.parts.specs.Split.{led};
 ghost use Rattle.reader.specs.Told.{placeOf, foundOf, verdictOf};
 ghost use Rattle.line.specs.Line.{refusedLine, placeWords, faultLine, deskLine, textLine, lookLine, ended};
 
+mod hex;
 mod place;
 
+pub use hex::hex_lines;
 pub use place::Asked;
 pub use place::asked_number;
 use reader::Fault;
@@ -24,7 +26,8 @@ use text::number;
 use text::put;
 use text::put_decimal;
 
-fn refused_line(r: Refusal, out: &mut [u8]) -> usize
+// The line that tells a refusal. Inner: the program lends 64 bytes.
+pub fn refused_line(r: Refusal, out: &mut [u8]) -> usize
     requires { ⌜ 64 ≤ length (now out) ⌝ }
     ensures { λ k. ⌜ Puts (now (out .entry)) 0 (ended (refusedLine r)) (now (out .exit)) k ⌝ }
 {

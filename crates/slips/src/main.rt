@@ -1,0 +1,50 @@
+// The enquiry desk's slip: a message on standard input, the group as the argument.
+ghost use Prim.Native.Nat.{_≤_};
+ghost use lib.ListN.{length, replicate};
+ghost use Rattle.text.specs.Puts.{Puts};
+ghost use Rattle.profile.specs.Profile.{profile01};
+ghost use Rattle.slip.specs.Slip.{slotSize};
+ghost use Rattle.slip.specs.Book.{file};
+ghost use Rattle.line.specs.Hex.{slipLines};
+use libc::STDIN_FILENO;
+use libc::STDOUT_FILENO;
+use line::Asked;
+use slip::Filed;
+
+// The lines that tell the slip's bytes, as it is filed in a book of one slot, or a refusal.
+fn tell(m: &[u8], group: u64, out: &mut [u8]) -> usize
+    requires { ⌜ 3072 ≤ length (now out) ⌝ }
+    ensures { λ r. ⌜ Puts (now (out .entry)) 0 (slipLines (file profile01 (now (m .entry)) group 0 (replicate slotSize 0))) (now (out .exit)) r ⌝ }
+{
+    let mut book = [0u8; 1024];
+    match slip::file(m, group, 0, &mut book) {
+        Filed::Refused(r) => line::refused_line(r, out),
+        Filed::Slip => line::hex_lines(&book, out),
+    }
+}
+
+// Argument 1 as a number. One of more than 4,096 digits is bad too.
+fn asked_group() -> Asked {
+    let mut word = io::buffer();
+    let n = os::arg(1, &mut word);
+    line::asked_number(&word[..n])
+}
+
+fn show(group: u64) {
+    // one byte more than the longest message, so that a longer one is seen to be too long
+    let mut message = io::large_buffer();
+    let n = io::read_full(STDIN_FILENO, &mut message);
+    let mut out = [0u8; 3072];
+    let end = tell(&message[..n], group, &mut out);
+    io::write_all(STDOUT_FILENO, &out[0..end]);
+}
+
+fn main() {
+    if os::arg_count() == 2 {
+        if let Asked::Number(group) = asked_group() {
+            show(group);
+            return;
+        }
+    }
+    io::write_all(STDOUT_FILENO, b"usage: slips GROUP < MESSAGE\n");
+}
