@@ -15,14 +15,16 @@ returns c =
     let e = k .before .before .before in
     let p = e .before .before .before .before in
     let a = p .before .before .before .before .before .before .args in
-    shows-refused (reply profile01 (a .m .now) (a .stamp .now) (a .number .now) (length (a .out .now))) _ _ _ _ (ap writtenOf (sym (e .r .given .1)) ∙ p .reply .ensures .answer) (k .refused-line .ensures)
+    shows-refused (reply profile01 (a .m .now) (a .stamp .now) (a .number .now) (length (a .out .now))) _ _ _ _
+    (ap writtenOf (sym (e .r .given .1)) ∙ p .reply .ensures .answer) (k .refused-line .ensures)
 
 returns-2 : tie.Need-returns-2
 returns-2 c =
     let e = c .before in
     let p = e .before .before .before .before in
     let a = p .before .before .before .before .before .before .args in
-    shows-given (reply profile01 (a .m .now) (a .stamp .now) (a .number .now) (length (a .out .now))) _ (a .out .now) _ (ap writtenOf (sym (e .n .given .1)) ∙ p .reply .ensures .answer) (p .reply .ensures .buffer)
+    shows-given (reply profile01 (a .m .now) (a .stamp .now) (a .number .now) (length (a .out .now))) _ (a .out .now) _
+    (ap writtenOf (sym (e .n .given .1)) ∙ p .reply .ensures .answer) (p .reply .ensures .buffer)
 
 pub tell-spec : {M : Type 1} → statement M
 tell-spec =

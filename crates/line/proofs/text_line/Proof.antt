@@ -15,8 +15,9 @@ put-requires-2 c κs = omega (arith, decimal-ends _ (c .before .before .before .
 
 put-decimal-requires-2 : tie.Need-put-decimal-requires-2
 put-decimal-requires-2 c κs =
-    let s = c .before .before .before in
-    omega (arith, decimal-length (s .before .before .before .before .before .before .before .before .before .before .before .before .before .args .end), decimal-ends _ (s .before .before .before .before .before .put-decimal .ensures))
+    let d = c .before .before .before .before .before .before .before .before in
+    let n = d .before .before .before .before .before .before .before .before .args in
+    omega (arith, decimal-length (n .end), decimal-ends _ (d .put-decimal .ensures))
 
 put-requires-3 : tie.Need-put-requires-3
 put-requires-3 c κs =

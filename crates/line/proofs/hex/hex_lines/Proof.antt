@@ -22,13 +22,17 @@ loop-holds : tie.Need-loop-holds Inv-loop μ-loop
 loop-holds c = (search needs, (search needs, (refl, hex-none (c .before .before .args .out .now) (c .before .before .args .t .now))))
 
 hex-digit-requires : tie.Need-hex-digit-requires Inv-loop μ-loop
-hex-digit-requires c κs = let w = c .shared-slice-known2 .given (c .before .before .loop .i) in omega (arith, w)
+hex-digit-requires c κs = omega (arith, c .shared-slice-known2 .given (c .before .before .loop .i))
 
 loop-again : tie.Need-loop-again Inv-loop μ-loop
 loop-again c =
-    let p = c .before .before .before in
-    let l = p .before .before .before .before .before .before .before in
-    (search needs, (search needs, (search needs, hex-on (l .before .before .before .args .t .now) (l .loop .i) (search needs) (l .loop .inv .1 .1 .1) (p .before .before .before .before .hex-digit .ensures) (p .before .before .before .hex-digit2 .ensures) (p .before .before .gap .ensures) (c .before .before .put .ensures))))
+    let p = c .before .before in
+    let g = p .before .before .before in
+    let l = g .before .before .before .before .before in
+    let on =
+    hex-on (l .before .before .before .args .t .now) (l .loop .i) (search needs) (l .loop .inv .1 .1 .1) (g .before .before .hex-digit .ensures)
+    (g .before .hex-digit2 .ensures) (g .gap .ensures) (p .put .ensures) in
+    (search needs, (search needs, (search needs, on)))
 
 returns : tie.Need-returns Inv-loop μ-loop
 returns c = rw (take-all (c .before .loop .i) (c .before .before .before .before .args .t .now) (c .loop-test .left)) at (c .before .loop .inv .1 .1 .1)

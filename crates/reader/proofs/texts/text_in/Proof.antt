@@ -25,8 +25,10 @@ returns c =
 
 returns-2 : tie.Need-returns-2
 returns-2 c =
-    let b = c .before .before .before .before .before .before .before in
-    taken-leaf (b .args .m .now) (b .args .s) _ _ (c .before .before .before .before .s .given .1) (b .pre .0) _ _ _ (c .before .leaf .result) _ (c .before .before .marks-of .ensures) (c .before .leaf .ensures)
+    let f = c .before in
+    let k = f .before .before .before in
+    let b = k .before .before .before in
+    taken-leaf (b .args .m .now) (b .args .s) _ _ (k .s .given .1) (b .pre .0) _ _ _ (f .leaf .result) _ (f .before .marks-of .ensures) (f .leaf .ensures)
     (c .text-of .ensures .bytes)
 
 pub text-in-spec : {M : Type 1} → statement M
