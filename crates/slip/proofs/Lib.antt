@@ -6,7 +6,9 @@ pub mod FillSlip
 pub mod Groups
 pub mod GroupSlip
 pub mod Answers
+pub mod SlipField
 pub mod ReadSlip
+pub mod ValueLies
 pub mod Resolved
 pub mod Slots
 pub mod Fields

@@ -17,7 +17,7 @@ use Rattle.slip.specs.Slip.{slotSize}
 use Rattle.slip.specs.Book.{noSlot, bookAfter}
 use Rattle.slip.specs.Read.{isSlip, expected, Part, valueFrom, isNone, orNothing, slot, readSlip}
 use Rattle.slip.specs.RoundTrip.{readBytes}
-use Rattle.slip.proofs.ReadSlip.{Lies, slot-lies}
+use Rattle.slip.proofs.ValueLies.{Lies, slot-lies}
 
 -- the book with a slip in slot k
 abbrev pub filed : Text → Text → ℕ → Text

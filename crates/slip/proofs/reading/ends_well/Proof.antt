@@ -1,5 +1,5 @@
 -- `ends_well`: the tests are those of the definition, in its order.
-use Rattle.slip.proofs.ReadSlip.{ends-as}
+use Rattle.slip.proofs.SlipField.{ends-as}
 use borrow.Author.Needs.{needs}
 use Rattle.slip.proofs.reading.ends_well.Statement.{statement}
 use Rattle.slip.proofs.reading.ends_well.Tie as tie

@@ -1,7 +1,7 @@
 -- `part_of`: the part that the answer names.
 use mathlib.Core.Path.{refl}
 use native.Mathlib.Omega.{arith}
-use Rattle.slip.proofs.ReadSlip.{inside-as, part-as}
+use Rattle.slip.proofs.ValueLies.{inside-as, part-as}
 use borrow.Author.Needs.{needs}
 use Rattle.slip.proofs.reading.part_of.Statement.{statement}
 use Rattle.slip.proofs.reading.part_of.Tie as tie

@@ -1,6 +1,6 @@
 -- `read_field`: its tag, its length and its bytes are tested one after another.
 use native.Mathlib.Omega.{arith}
-use Rattle.slip.proofs.ReadSlip.{field-skipped, field-missing, field-length, number-small, field-bytes, field-read}
+use Rattle.slip.proofs.SlipField.{field-skipped, field-missing, field-length, number-small, field-bytes, field-read}
 use borrow.Author.Needs.{needs}
 use Rattle.slip.proofs.reading.read_field.Statement.{statement}
 use Rattle.slip.proofs.reading.read_field.Tie as tie

@@ -2,7 +2,8 @@
 use Prim.Native.Nat.{_-_}
 use mathlib.Core.Logic.{⊎-elim}
 use native.Mathlib.Omega.{arith}
-use Rattle.slip.proofs.ReadSlip.{ReadTo, field-as, read-none, read-bad, read-here, read-past, read-no-slip, read-count, read-found}
+use Rattle.slip.proofs.SlipField.{field-as}
+use Rattle.slip.proofs.ReadSlip.{ReadTo, read-none, read-bad, read-here, read-past, read-no-slip, read-count, read-found}
 use borrow.Author.Needs.{needs}
 use Rattle.slip.proofs.reading.read_in.Statement.{statement}
 use Rattle.slip.proofs.reading.read_in.Tie as tie

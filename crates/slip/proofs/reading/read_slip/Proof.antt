@@ -46,7 +46,7 @@ use Rattle.slip.specs.Inner.{Inside}
 use Rattle.slip.specs.Promise.{ReadsSlip}
 use Rattle.slip.specs.declared.reading.SlipValue.{SlipValue}
 use Rattle.slip.specs.declared.Value.{Value}
-use Rattle.slip.proofs.ReadSlip.{value-inside}
+use Rattle.slip.proofs.ValueLies.{value-inside}
 use Rattle.slip.proofs.reading.SlipValue as T
 use Rattle.slip.proofs.reading.SlipValue.Laws as T′
 use Rattle.slip.proofs.Value as S
