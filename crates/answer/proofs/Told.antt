@@ -8,6 +8,7 @@ use Rattle.text.specs.Bytes.{Text}
 use Rattle.text.specs.Answer.{Answer, refused, given, reported, bufferAfter}
 use Rattle.text.specs.Puts.{Puts}
 use Rattle.text.specs.declared.refusal.Refusal.{Refusal}
+use Rattle.text.proofs.Answer.{told-refused}
 use Rattle.text.proofs.Puts.{puts-length, puts-head}
 use Rattle.line.specs.Line.{ended, refusedLine, answerText}
 
@@ -15,22 +16,15 @@ use Rattle.line.specs.Line.{ended, refusedLine, answerText}
 abbrev pub Shows : ℕ → Text → Text → Type 0
 Shows n out t = (n ≤ length out) × (take n out ≡ t)
 
-refused-step : (a : Answer Text) (r : Refusal) → refused r ≡ reported a → a ≡ refused r
-refused-step (refused s) r e = cc
-refused-step (given t) r e = absurd (let z : _≡_ {A = ℕ} 0 1 = cc in omega arith)
-
 -- a refusal: its line is put to the front
 pub shows-refused : (a : Answer Text) (r : Refusal) (before out : Text) (n : ℕ) → refused r ≡ reported a → Puts before 0 (ended (refusedLine r)) out n
     → Shows n out (answerText a)
 shows-refused a r before out n e p =
-    (omega (arith, p .room, p .ends, puts-length p), puts-head p ∙ ap answerText (sym (refused-step a r e)))
+    (omega (arith, p .room, p .ends, puts-length p), puts-head p ∙ ap answerText (sym (told-refused length a r e)))
 
 -- a reply: it stands first
-given-step : (a : Answer Text) (n : ℕ) (before out : Text) → given n ≡ reported a → out ≡ bufferAfter a before → Shows n out (answerText a)
-given-step (refused s) n before out e b = absurd (let z : _≡_ {A = ℕ} 0 1 = cc in omega arith)
-given-step (given t) n before out e b =
+pub shows-given : (a : Answer Text) (n : ℕ) (before out : Text) → given n ≡ reported a → out ≡ bufferAfter a before → Shows n out (answerText a)
+shows-given (refused s) n before out e b = absurd (let z : _≡_ {A = ℕ} 0 1 = cc in omega arith)
+shows-given (given t) n before out e b =
     let l : n ≡ length t = cc in
     (rw (b, l) (omega (arith, length-append t (drop (length t) before))), rw (b, l) (take-at t (drop (length t) before) (length t) refl))
-
-pub shows-given : (a : Answer Text) (n : ℕ) (before out : Text) → given n ≡ reported a → out ≡ bufferAfter a before → Shows n out (answerText a)
-shows-given a n before out e b = given-step a n before out e b

@@ -8,6 +8,7 @@ use denote.Ref.{RefT}
 use Rattle.text.specs.Bytes.{Text, within}
 use Rattle.text.specs.Answer.{Answer, refused, given, tell}
 use Rattle.text.specs.declared.refusal.Refusal.{Refusal}
+use Rattle.text.proofs.Answer.{told-refused}
 use Rattle.profile.specs.Profile.{profile01}
 use Rattle.slip.specs.declared.Filed.the-variants.{Refused, Slip}
 use Rattle.slip.specs.declared.Value.{Value}
@@ -39,12 +40,10 @@ given-step (refused r) e = absurd (let z : _≡_ {A = ℕ} 0 1 = cc in omega ari
 given-step (given slip) e = (slip, refl)
 
 -- A REFUSAL leaves the book as it was
-refused-step : (a : Answer Text) (r : Refusal) (k : ℕ) (before : Text) → refused r ≡ done a → bookAfter a k before ≡ before
-refused-step (refused s) r k before e = refl
-refused-step (given slip) r k before e = absurd (let z : _≡_ {A = ℕ} 0 1 = cc in omega arith)
-
 pub refused-untouched : (m : Text) (g k : ℕ) (before : Text) (r : Refusal) (after : Text) → Files m g k before (Refused r) after → after ≡ before
-refused-untouched m g k before r after f = f .book ∙ refused-step (file profile01 m g k before) r k before (f .answer)
+refused-untouched m g k before r after f =
+    f .book
+    ∙ ap (λ (a : Answer Text). bookAfter a k before) (told-refused (λ (t : Text). tt {0}) (file profile01 m g k before) r (f .answer))
 
 module _ (m : Text) (g k : ℕ) (before after : Text) (was-filed : Files m g k before Slip after) where
   slip-given : (slip : Text) × (file profile01 m g k before ≡ given slip)

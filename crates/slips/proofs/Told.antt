@@ -7,18 +7,15 @@ use lib.ListN.{replicate}
 use Rattle.text.specs.Bytes.{Text}
 use Rattle.text.specs.Answer.{Answer, refused, given}
 use Rattle.text.specs.declared.refusal.Refusal.{Refusal}
+use Rattle.text.proofs.Answer.{told-refused}
 use Rattle.line.specs.Line.{ended, refusedLine}
 use Rattle.line.specs.Hex.{hexLines, slipLines}
 use Rattle.slip.specs.Slip.{slotSize}
 use Rattle.slip.specs.Book.{bookAfter}
 use Rattle.slip.specs.Told.{done}
 
-refused-step : (a : Answer Text) (r : Refusal) → refused r ≡ done a → a ≡ refused r
-refused-step (refused s) r e = cc
-refused-step (given t) r e = absurd (let z : _≡_ {A = ℕ} 0 1 = cc in omega arith)
-
 pub lines-refused : (a : Answer Text) (r : Refusal) → refused r ≡ done a → ended (refusedLine r) ≡ slipLines a
-lines-refused a r e = ap slipLines (sym (refused-step a r e))
+lines-refused a r e = ap slipLines (sym (told-refused (λ (t : Text). tt {0}) a r e))
 
 -- the one slot of the book is the slip
 pub lines-given : (a : Answer Text) (book : Text) → given tt ≡ done a → book ≡ bookAfter a 0 (replicate slotSize 0) → hexLines book ≡ slipLines a

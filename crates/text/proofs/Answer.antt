@@ -72,6 +72,11 @@ unfolding first passes
 given-passes [] a c e = refl
 given-passes (t ∷ ts) a c e = passes-step (t .applies) (passes ts) (t .refusal) c (first ts a) (given-passes ts a c) e
 
+-- where a refusal is told, it is the answer
+pub told-refused : {A B : Type 0} (f : A → B) (a : Answer A) (r : Refusal) → refused r ≡ tell f a → a ≡ refused r
+told-refused f (refused s) r e = cc
+told-refused f (given x) r e = absurd (let z : _≡_ {A = ℕ} 0 1 = cc in omega arith)
+
 tell-step : {A B : Type 0} (f : A → B) (b : Bool) (x y : Answer A) → tell f (pick b x y) ≡ pick b (tell f x) (tell f y)
 tell-step f true x y = refl
 tell-step f false x y = refl
