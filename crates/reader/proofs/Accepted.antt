@@ -3,29 +3,16 @@ use mathlib.Core.Path.{_≡_, refl, sym, ap, _∙_}
 use Prim.Native.Nat.{ℕ}
 use native.Mathlib.Omega.{arith}
 use mathlib.Core.Bool.{Bool, true, false, not, _&&_}
-use mathlib.Core.List.{List, [], _∷_, _++_}
+use mathlib.Core.List.{List, [], _∷_}
 use Rattle.text.specs.Bytes.{Text, pick, every}
 use Rattle.text.specs.Answer.{given}
 use Rattle.text.proofs.Tests.{not-true}
+use Rattle.text.proofs.First.{first-here, first-later}
 use Rattle.text.proofs.Answer.{first-given, given-passes, first-asked}
 use Rattle.frame.specs.Frame.{frameTests, framed}
 use Rattle.profile.specs.Table.{Table}
 use Rattle.reader.specs.Place.{Place}
-use Rattle.reader.specs.Fault.{Check, checks, Verdict, accepted, fault, firstBroken, verdict, judge}
-
-abbrev pub noneBroken : List Check → Bool
-noneBroken cs = every (λ (c : Check). not (c .broken)) cs
-
--- a broken check of a list, with none broken before it
-pub record FirstBroken (cs : List Check) (p : Place) (n : ℕ) : Type 0 where
-  pub before : List Check
-  pub check : Check
-  pub after : List Check
-  pub among : cs ≡ before ++ check ∷ after
-  pub passed : noneBroken before ≡ true
-  pub broken : check .broken ≡ true
-  pub place : check .place ≡ p
-  pub reason : check .reason ≡ n
+use Rattle.reader.specs.Fault.{Check, isBroken, noneBroken, FirstBroken, checks, Verdict, accepted, fault, firstBroken, verdict, judge}
 
 none-step : (b r : Bool) (p : Place) (n : ℕ) (v : Verdict) → (v ≡ accepted → r ≡ true) → pick b (fault p n) v ≡ accepted → not b && r ≡ true
 none-step true r p n v h e = absurd (let z : _≡_ {A = ℕ} 0 1 = cc in omega arith)
@@ -47,21 +34,10 @@ none-accepted (c ∷ cs) e = accepted-step (c .broken) (noneBroken cs) (c .place
 
 first-step : (c : Check) (cs : List Check) (p : Place) (n : ℕ) (b : Bool) → c .broken ≡ b → (firstBroken cs ≡ fault p n → FirstBroken cs p n)
     → pick b (fault (c .place) (c .reason)) (firstBroken cs) ≡ fault p n → FirstBroken (c ∷ cs) p n
-unfolding every
-first-step c cs p n true s h e =
-    record { before = []; check = c; after = cs; among = refl; passed = refl; broken = s; place = cc; reason = cc }
+first-step c cs p n true s h e = record { found = c; first = first-here isBroken c cs s; place = cc; reason = cc }
 first-step c cs p n false s h e =
     let f = h e in
-    record {
-      before = c ∷ f .before;
-      check = f .check;
-      after = f .after;
-      among = ap {B = List Check} (λ l. c ∷ l) (f .among);
-      passed = rw s (f .passed);
-      broken = f .broken;
-      place = f .place;
-      reason = f .reason;
-    }
+    record { found = f .found; first = first-later isBroken c (f .found) cs s (f .first); place = f .place; reason = f .reason }
 
 fault-first : (cs : List Check) (p : Place) (n : ℕ) → firstBroken cs ≡ fault p n → FirstBroken cs p n
 unfolding firstBroken

@@ -2,16 +2,16 @@
 use mathlib.Core.Path.{_≡_, refl, sym, ap, _∙_}
 use Prim.Native.Nat.{ℕ}
 use native.Mathlib.Omega.{arith}
-use mathlib.Core.Bool.{Bool, true, false}
+use mathlib.Core.Bool.{true, false}
 use mathlib.Core.List.{List, [], _∷_, _++_, append-nil}
 use lib.ListN.{length, getD, take, drop}
 use borrow.Author.Tests.{le-ltb}
-use Rattle.text.specs.Bytes.{Text, pick, bytes, cr, some, keep, same, within}
-use Rattle.text.specs.Answer.{Answer, refused, given, Test, first, passes}
+use Rattle.text.specs.Bytes.{Text, bytes, cr, some, keep, same, within}
+use Rattle.text.specs.Answer.{refused, given, Test, first}
 use Rattle.text.specs.Marks.{marksOf}
 use Rattle.text.specs.declared.refusal.Refusal.{Refusal}
 use Rattle.text.proofs.Tests.{same-true}
-use Rattle.text.proofs.Answer.{first-refused, first-given}
+use Rattle.text.proofs.Answer.{first-refused, first-given, given-passes}
 use Rattle.parts.specs.Split.{closed}
 use Rattle.frame.specs.Segments.{segments, name, ofName, fewer}
 use Rattle.frame.specs.Frame.{header, frameTests, framed}
@@ -113,15 +113,6 @@ module _ (t : List ℕ) (m : Text) (sound : Sound t) (good : framed m ≡ true) 
 
 -- ---- the frame's tests, then the verdict
 
-passed-step : (b : Bool) (x : Refusal) (s : Answer (Unit {0})) (p : Bool) → (given tt ≡ s → p ≡ true) → given tt ≡ pick b (refused x) s → pick b false p ≡ true
-passed-step true x s p h e = absurd (let z : _≡_ {A = ℕ} 0 1 = cc in omega arith)
-passed-step false x s p h e = h e
-
-given-passes : (ts : List Test) → given (tt {0}) ≡ first ts (tt {0}) → passes ts ≡ true
-unfolding first passes
-given-passes [] e = refl
-given-passes (t ∷ ts) e = passed-step (t .applies) (t .refusal) (first ts tt) (passes ts) (given-passes ts) e
-
 module _ (m : Text) (a : Framing) (told : framingOf a ≡ first (frameTests m) (tt {0})) where
   pub judged-frame : (T : Table) (r : Refusal) → a ≡ framing.Refused r → refused r ≡ judge T m
   unfolding judge
@@ -130,7 +121,7 @@ module _ (m : Text) (a : Framing) (told : framingOf a ≡ first (frameTests m) (
       ∙ ap (λ (ts : List Test). first ts (verdict T m)) (append-nil (frameTests m))
 
   pub judged-framed : a ≡ framing.Framed → framed m ≡ true
-  judged-framed e = given-passes (frameTests m) (ap framingOf (sym e) ∙ told)
+  judged-framed e = given-passes (frameTests m) tt tt (sym (ap framingOf (sym e) ∙ told))
 
   pub judged-on : (t : List ℕ) (T : Table) (v : code.Verdict) → Tells t T → a ≡ framing.Framed → verdictOf v ≡ given (verdict (tableOf t) m) → verdictOf v ≡ judge T m
   unfolding judge

@@ -17,8 +17,8 @@ use Rattle.profile.specs.Table.{Table, isListed, mayFollow}
 use Rattle.profile.specs.Rows.{rows}
 use Rattle.profile.specs.Profile.{profile01}
 use Rattle.reader.specs.View.{Segment, segmentSeen, view}
-use Rattle.reader.specs.Fault.{Check, fieldChecks, count, walk, checks, accepted, verdict}
-use Rattle.reader.proofs.Accepted.{noneBroken, accepted-none}
+use Rattle.reader.specs.Fault.{Check, noneBroken, fieldChecks, count, walk, checks, accepted, verdict}
+use Rattle.reader.proofs.Accepted.{accepted-none}
 use Rattle.reader.proofs.Headed.{header-opens}
 
 -- where no check is broken, none of the later ones is
@@ -72,7 +72,7 @@ header = bytes "MSH"
 abbrev patient : Text
 patient = bytes "PID"
 
-header-listed : isListed profile01 header ≡ true
+pub header-listed : isListed profile01 header ≡ true
 unfolding some same profile01 rows
 header-listed = refl
 

@@ -5,7 +5,7 @@ use mathlib.Core.Path.{_≡_, sym, _∙_}
 use lib.ListN.{getD}
 use denote.Ref.{RefT}
 use Rattle.text.specs.Bytes.{Text}
-use Rattle.profile.specs.Profile.{profile01}
+use Rattle.profile.specs.Table.{Table}
 use Rattle.reader.specs.declared.Place.{Place}
 use Rattle.reader.specs.declared.Found.{Found}
 use Rattle.reader.specs.declared.Found.the-variants as found
@@ -13,10 +13,9 @@ use Rattle.reader.specs.declared.Verdict.{Verdict}
 use Rattle.reader.specs.declared.Verdict.the-variants as verdict
 use Rattle.reader.specs.declared.search.LookedUp.{LookedUp}
 use Rattle.reader.specs.LookUp.{lookUp}
-use Rattle.reader.specs.Fault.{judge}
 use Rattle.reader.specs.Told.{placeOf, foundOf, verdictOf}
-use Rattle.reader.specs.Part.{VeryPart, startOf, endOf}
-use Rattle.reader.specs.Promise.{LooksUp}
+use Rattle.reader.specs.Part.{VeryPart, SamePart, startOf, endOf}
+use Rattle.reader.specs.Promise.{LooksUp, Judges}
 
 -- an answer is what is told of it
 pub found-same : (f g : Found) → foundOf f ≡ foundOf g → f ≡ g
@@ -33,12 +32,7 @@ found-same (found.Text i j) (found.Text k l) e = cc
 pub find-unique : (m : Text) (p : Place) (f g : Found) → foundOf f ≡ lookUp m (placeOf p) → foundOf g ≡ lookUp m (placeOf p) → f ≡ g
 find-unique m p f g a b = found-same f g (a ∙ sym b)
 
--- two parts that are that very part of one message: the same bytes, in the same block, from the same byte on
-pub record SamePart (r s : RefT Text) : Type 0 where
-  pub bytes : r .now ≡ s .now
-  pub block : r .ptr .0 ≡ s .ptr .0
-  pub offset : r .ptr .1 ≡ s .ptr .1
-
+-- two parts that are that very part of one message
 pub part-same : (r s m : RefT Text) (a e : ℕ) → VeryPart r m a e → VeryPart s m a e → SamePart r s
 part-same r s m a e p q =
     record { bytes = p .bytes ∙ sym (q .bytes); block = p .block ∙ sym (q .block); offset = p .offset ∙ sym (q .offset) }
@@ -77,5 +71,5 @@ verdict-same (verdict.Fault f) (verdict.Fault g) e =
     let n : f .reason ≡ g .reason = cc in
     λ i. verdict.Fault (record { place = place-same (f .place) (g .place) p i; reason = n i })
 
-pub judge-unique : (m : Text) (v w : Verdict) → verdictOf v ≡ judge profile01 m → verdictOf w ≡ judge profile01 m → v ≡ w
-judge-unique m v w a b = verdict-same v w (a ∙ sym b)
+pub judge-unique : (T : Table) (m : Text) (v w : Verdict) → Judges T m v → Judges T m w → v ≡ w
+judge-unique T m v w a b = verdict-same v w (a ∙ sym b)

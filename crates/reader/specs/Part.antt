@@ -12,6 +12,12 @@ pub record VeryPart (r m : RefT Text) (a e : ℕ) : Type 0 where
   pub block : r .ptr .0 ≡ m .ptr .0
   pub offset : r .ptr .1 ≡ m .ptr .1 + a
 
+-- two such parts of one message: the same bytes, in the same block, from the same byte on
+pub record SamePart (r s : RefT Text) : Type 0 where
+  pub bytes : r .now ≡ s .now
+  pub block : r .ptr .0 ≡ s .ptr .0
+  pub offset : r .ptr .1 ≡ s .ptr .1
+
 -- the part that an answer names: of no text, no bytes at the message's start
 abbrev pub startOf : Found → ℕ
 startOf (found.Refused r) = 0

@@ -10,6 +10,7 @@ ghost use Rattle.profile.specs.Order.{Sound};
 ghost use Rattle.profile.specs.Profile.{profile01};
 ghost use Rattle.reader.specs.Fault.{fault, verdict};
 ghost use Rattle.reader.specs.Place.{place};
+ghost use Rattle.reader.specs.Promise.{Judges};
 ghost use Rattle.reader.specs.Told.{verdictOf};
 ghost use Rattle.reader.specs.Judged.{nameAt, Here, haltVerdict, numberAt};
 use crate::Fault;
@@ -89,7 +90,7 @@ fn judge_framed(m: &[u8], t: &[u16]) -> Verdict
 
 // Judges a message by the depot's own table: refused, accepted, or the first fault.
 pub fn judge(m: &[u8]) -> Verdict
-    ensures { λ r. ⌜ verdictOf r ≡ Rattle.reader.specs.Fault.judge profile01 (now (m .entry)) ⌝ }
+    ensures { λ r. ⌜ Judges profile01 (now (m .entry)) r ⌝ }
 {
     match check(m) {
         Framing::Refused(r) => Verdict::Refused(r),

@@ -12,7 +12,7 @@ use Rattle.text.specs.Decimal.{digitsBefore, decimal}
 use Rattle.text.specs.Marks.{usual, marksOf}
 use Rattle.text.specs.Escape.{badEscape}
 use Rattle.text.specs.Types.{tooLong, _to_, isWithin, isDTM, isStamp, isReplyNumber}
-use Rattle.text.proofs.Tests.{not-true, both, same-true}
+use Rattle.text.proofs.Tests.{not-true, both, picks, same-true}
 use Rattle.text.proofs.Lists.{All, or-either, or-none}
 use Rattle.text.proofs.Digits.{decimal-length}
 use Rattle.parts.specs.Split.{led, join, closed}
@@ -24,7 +24,7 @@ use Rattle.profile.specs.Profile.{profile01}
 use Rattle.reader.specs.Place.{Place}
 use Rattle.reader.specs.Fault.{Verdict, accepted, fault, verdict, condition}
 use Rattle.reply.specs.Reply.{headerLeaf, trimmed, orEmpty, copiedHD, processing, control, noControl, code, orNone, placeText, conditionText, headerFields, replyHeader, replyMSA, replyERR, replyText}
-use Rattle.reply.proofs.Small.{picked, Small, SmallVerdict, smallTable, profile-small, verdict-small}
+use Rattle.reply.proofs.Small.{Small, SmallVerdict, smallTable, profile-small, verdict-small}
 
 abbrev Within : ℕ → Text → Type 0
 Within k t = length t ≤ k
@@ -55,7 +55,7 @@ trimmed-total : (ps : List Text) → total (trimmed ps) ≤ total ps
 unfolding trimmed
 trimmed-total [] = omega arith
 trimmed-total (p ∷ ps) =
-    picked (λ (rs : List Text). total rs ≤ total (p ∷ ps)) (empty p && empty (trimmed ps)) (omega arith) (omega (arith, trimmed-total ps))
+    picks (λ (rs : List Text). total rs ≤ total (p ∷ ps)) (empty p && empty (trimmed ps)) (omega arith) (omega (arith, trimmed-total ps))
 
 -- trimmed texts are joined to no more bytes than all of them
 trimmed-length : (sep : ℕ) (ps : List Text) (k : ℕ) → total ps ≤ suc k → length (join sep (trimmed ps)) ≤ k
@@ -71,7 +71,7 @@ module _ (k n : ℕ) (t : Text) where
   digits-more : (j : ℕ) → length (digitsBefore k (n / 10) ((byte "0" + n % 10) ∷ t)) ≤ suc j + length t
       → length (digitsBefore (suc k) n t) ≤ suc j + length t
   unfolding digitsBefore
-  digits-more j h = picked (Within (suc j + length t)) (ltb n 10) (omega arith) h
+  digits-more j h = picks (Within (suc j + length t)) (ltb n 10) (omega arith) h
 
 three-digits : (n : ℕ) → n < 1000 → length (decimal n) ≤ 3
 three-digits n h =
@@ -80,7 +80,7 @@ three-digits n h =
     (digits-first 17 (n / 10 / 10) ((byte "0" + n / 10 % 10) ∷ (byte "0" + n % 10) ∷ []) (omega arith)))
 
 or-none-length : (n k : ℕ) → length (decimal n) ≤ k → length (orNone n) ≤ k
-or-none-length n k h = picked (Within k) (eqb n 0) (omega arith) h
+or-none-length n k h = picks (Within k) (eqb n 0) (omega arith) h
 
 -- 3. The header
 stamp-length : (t : Text) → isStamp t ≡ true → length t ≡ 14
@@ -152,7 +152,7 @@ control-length m e =
 
 code-length : (v : Verdict) → length (code v) ≤ 2
 code-length accepted = omega arith
-code-length (fault p n) = picked (Within 2) (ltb (condition n) 200) (omega arith) (omega arith)
+code-length (fault p n) = picks (Within 2) (ltb (condition n) 200) (omega arith) (omega arith)
 
 msa-length : (m : Text) (v : Verdict) → length (control m) ≤ 20 → length (replyMSA m v) ≤ 27
 msa-length m v h = omega (arith, join-length (usual .field) (bytes "MSA" ∷ code v ∷ control m ∷ []), code-length v)
@@ -182,23 +182,23 @@ place-length p s =
 condition-small : (n : ℕ) → condition n < 1000
 condition-small n =
     let P : ℕ → Type 0 = λ k. k < 1000 in
-    picked P (ltb n 3) (omega arith)
-    (picked P (eqb n 3) (omega arith)
-    (picked P (ltb n 8) (omega arith)
-    (picked P (eqb n 8) (omega arith)
-    (picked P (eqb n 9) (omega arith)
-    (picked P (eqb n 10) (omega arith)
-    (picked P (eqb n 11) (omega arith) (omega arith)))))))
+    picks P (ltb n 3) (omega arith)
+    (picks P (eqb n 3) (omega arith)
+    (picks P (ltb n 8) (omega arith)
+    (picks P (eqb n 8) (omega arith)
+    (picks P (eqb n 9) (omega arith)
+    (picks P (eqb n 10) (omega arith)
+    (picks P (eqb n 11) (omega arith) (omega arith)))))))
 
 condition-length : (k : ℕ) → length (conditionText k) ≤ 25
 condition-length k =
-    picked (Within 25) (eqb k 100) (omega arith)
-    (picked (Within 25) (eqb k 101) (omega arith)
-    (picked (Within 25) (eqb k 102) (omega arith)
-    (picked (Within 25) (eqb k 103) (omega arith)
-    (picked (Within 25) (eqb k 200) (omega arith)
-    (picked (Within 25) (eqb k 201) (omega arith)
-    (picked (Within 25) (eqb k 202) (omega arith) (omega arith)))))))
+    picks (Within 25) (eqb k 100) (omega arith)
+    (picks (Within 25) (eqb k 101) (omega arith)
+    (picks (Within 25) (eqb k 102) (omega arith)
+    (picks (Within 25) (eqb k 103) (omega arith)
+    (picks (Within 25) (eqb k 200) (omega arith)
+    (picks (Within 25) (eqb k 201) (omega arith)
+    (picks (Within 25) (eqb k 202) (omega arith) (omega arith)))))))
 
 err-length : (v : Verdict) → SmallVerdict v → total (replyERR v) ≤ 103
 err-length accepted s = omega arith

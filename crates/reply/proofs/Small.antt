@@ -3,15 +3,15 @@
 use mathlib.Core.Path.{_≡_, refl}
 use Prim.Native.Nat.{ℕ, suc, _≤_, _<_}
 use native.Mathlib.Omega.{arith}
-use mathlib.Core.Bool.{Bool, true, false, _&&_}
+use mathlib.Core.Bool.{Bool, true, _&&_}
 use mathlib.Core.List.{List, [], _∷_, map, flatMap}
 use lib.ListN.{length, length-take}
 use lib.Dec.{ltb}
 use borrow.Author.Tests.{ltb-true}
-use Rattle.text.specs.Bytes.{Text, pick, every, keep, same}
+use Rattle.text.specs.Bytes.{Text, every, keep, same}
 use Rattle.text.specs.declared.marks.Marks.{Marks}
 use Rattle.text.specs.Marks.{marksOf}
-use Rattle.text.proofs.Tests.{both}
+use Rattle.text.proofs.Tests.{both, picks}
 use Rattle.text.proofs.Lists.{All, all-map, all-append, all-keep, every-all, all-flatMap}
 use Rattle.frame.specs.Segments.{name, unsplit}
 use Rattle.profile.specs.Table.{Table, Leaf, Listed, leaf, named-by, Row, Type-leaves, typeLeaves, Rule, gathered, rulesOf, leavesIn, leavesOf}
@@ -22,12 +22,7 @@ use Rattle.reader.specs.Place.{Place, place, leafOf, repetitions}
 use Rattle.reader.specs.View.{Entry, Repetition, Field, Segment, entriesOf, isFilled, filledFrom, namedIn, fieldSeen, segmentSeen, listedSegments, view}
 use Rattle.reader.specs.Fault.{Check, leafChecks, repetitionChecks, fieldChecks, count, walk, checks, Verdict, accepted, fault, firstBroken, verdict}
 
--- 1. What is picked, what is made of each member
--- what holds of both holds of the one that is picked
-pub picked : {A : Type 0} (P : A → Type 0) (b : Bool) {x y : A} → P x → P y → P (pick b x y)
-picked P true h k = h
-picked P false h k = k
-
+-- 1. What is made of each member
 all-made : {A B : Type 0} (P : B → Type 0) (f : A → B) (l : List A) → All (λ x. P (f x)) l → All P (map f l)
 all-made P f [] a = tt
 all-made P f (x ∷ l) a = (a .0, all-made P f l (a .1))
@@ -79,7 +74,7 @@ named-small : (xs : List Type-leaves) (otherwise : List Leaf) (t : Text) → All
 unfolding typeLeaves
 named-small [] otherwise t a h = h
 named-small (x ∷ xs) otherwise t a h =
-    picked SmallLeaves (same (x .type) t) (every-all smallLeaf (x .leaves) (a .0)) (named-small xs otherwise t (a .1) h)
+    picks SmallLeaves (same (x .type) t) (every-all smallLeaf (x .leaves) (a .0)) (named-small xs otherwise t (a .1) h)
 
 abbrev SmallEntry : Entry → Type 0
 SmallEntry e = smallLeaf (e .leaf) ≡ true
@@ -92,7 +87,7 @@ unfolding filledFrom
 filled-small k read [] h = tt
 filled-small k read (t ∷ ts) h =
     let rest = filled-small (suc k) read ts h in
-    picked (All SmallRepetition) (isFilled (read t)) (h t, rest) rest
+    picks (All SmallRepetition) (isFilled (read t)) (h t, rest) rest
 
 -- 5. What is seen of a message
 abbrev SmallField : Field → Type 0
@@ -224,7 +219,7 @@ SmallVerdict (fault p n) = Small p
 broken-small : (cs : List Check) → All SmallCheck cs → SmallVerdict (firstBroken cs)
 unfolding firstBroken
 broken-small [] a = tt
-broken-small (c ∷ cs) a = picked SmallVerdict (c .broken) (a .0) (broken-small cs (a .1))
+broken-small (c ∷ cs) a = picks SmallVerdict (c .broken) (a .0) (broken-small cs (a .1))
 
 -- THE PLACE OF A FAULT IS SMALL
 pub verdict-small : (T : Table) → smallTable T ≡ true → (m : Text) → SmallVerdict (verdict T m)

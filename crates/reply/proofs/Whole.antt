@@ -29,8 +29,8 @@ use Rattle.reader.specs.Copied.{segmentText}
 use Rattle.reader.specs.Fault.{Verdict, accepted, fault, verdict, judge}
 use Rattle.reader.specs.Told.{placeOf, verdictOf}
 use Rattle.reply.specs.Reply as spec
-use Rattle.reply.specs.Reply.{control, noControl, replyHeader, replyMSA, replyERR, replyText}
-use Rattle.reply.specs.Inner.{IsHeader, ended, codeOf, errorOf, ownTests, ownReply, Acknowledges}
+use Rattle.reply.specs.Reply.{ownTests, control, noControl, replyHeader, replyMSA, replyERR, replyText}
+use Rattle.reply.specs.Inner.{IsHeader, ended, codeOf, errorOf, ownReply, Acknowledges}
 use Rattle.reply.specs.Promise.{Replies}
 use Rattle.reply.proofs.Heading.{leaf-copied}
 use Rattle.reply.proofs.Bound.{reply-bound}
@@ -147,18 +147,18 @@ module _ (m : Text) (v : code-verdict.Verdict) (judged : verdictOf v ≡ judge p
       (f, judged ∙ first-given (frameTests m) (verdict profile01 m) f)
 
   module _ (stamp number before : Text) where
-    pub replies-refused : (x : Refusal) → v ≡ code.Refused x → Replies m stamp number before (written.Refused x) before
+    pub replies-refused : (x : Refusal) → v ≡ code.Refused x → Replies profile01 m stamp number before (written.Refused x) before
     unfolding judge spec.reply
     replies-refused x e =
         let g : refused x ≡ first (frameTests m) (tt {0}) =
         ap (λ (a : Answer Verdict). tell (λ w. tt {0}) a) (ap verdictOf (sym e) ∙ judged) ∙ tell-first (λ w. tt {0}) (frameTests m) (verdict profile01 m)
         in
-        let l = first-refused (frameTests m) (ownTests m stamp number (length before)) (replyText profile01 m stamp number) x g in
+        let l = first-refused (frameTests m) (ownTests profile01 m stamp number (length before)) (replyText profile01 m stamp number) x g in
         record { answer = rw (← l); buffer = rw (← l) }
 
     pub replies-given : (w : Verdict) → verdictOf v ≡ given w → {r : Written} {after : Text} → Acknowledges m stamp number before r after
-        → Replies m stamp number before r after
+        → Replies profile01 m stamp number before r after
     unfolding spec.reply
     replies-given w e {r} {after} a =
-        let l = first-passed (frameTests m) (ownTests m stamp number (length before)) (replyText profile01 m stamp number) (judged-good w e .0) in
+        let l = first-passed (frameTests m) (ownTests profile01 m stamp number (length before)) (replyText profile01 m stamp number) (judged-good w e .0) in
         record { answer = rw l (a .answer); buffer = rw l (a .buffer) }

@@ -1,17 +1,13 @@
 -- What only inner functions promise and ask for.
 use Prim.Native.Nat.{ℕ}
 use mathlib.Core.Path.{_≡_}
-use mathlib.Core.Bool.{not}
-use mathlib.Core.List.{List, [], _∷_, _++_}
+use mathlib.Core.List.{[], _∷_, _++_}
 use lib.ListN.{length}
-use lib.Dec.{ltb}
 use Rattle.text.specs.Bytes.{Text, bytes, byte, cr}
 use Rattle.text.specs.Decimal.{decimal}
-use Rattle.text.specs.Answer.{Answer, Test, test, first, bufferAfter, reported, writtenOf}
+use Rattle.text.specs.Answer.{Answer, first, bufferAfter, reported, writtenOf}
 use Rattle.text.specs.declared.Written.{Written}
-use Rattle.text.specs.declared.refusal.Refusal.the-variants.{BadStamp, BadReplyNumber, NoControlNumber, NoRoom}
 use Rattle.text.specs.Marks.{usual}
-use Rattle.text.specs.Types.{isStamp, isReplyNumber}
 use Rattle.parts.specs.Split.{join, closed}
 use Rattle.frame.specs.declared.segment.Standing.{Standing}
 use Rattle.frame.specs.Told.{standing}
@@ -21,7 +17,7 @@ use Rattle.reader.specs.declared.Verdict.the-variants as verdict
 use Rattle.reader.specs.Place.{Place}
 use Rattle.reader.specs.Fault.{accepted, fault, condition}
 use Rattle.reader.specs.Told.{placeOf}
-use Rattle.reply.specs.Reply.{noControl, code, conditionText, replyERR, replyText}
+use Rattle.reply.specs.Reply.{code, conditionText, replyERR, replyText, ownTests}
 
 -- the message's header stands there
 abbrev pub IsHeader : Text → Standing → Type 0
@@ -50,17 +46,9 @@ errorOf (verdict.Refused r) = []
 errorOf verdict.Accepted = []
 errorOf (verdict.Fault f) = errorText (placeOf (f .place)) (f .reason)
 
--- the tests behind those of the frame, and what is answered and left where the frame is good
-abbrev pub ownTests : Text → Text → Text → ℕ → List Test
-ownTests m stamp number room =
-    test BadStamp (not (isStamp stamp))
-    ∷ test BadReplyNumber (not (isReplyNumber number))
-    ∷ test NoControlNumber (noControl m)
-    ∷ test NoRoom (ltb room (length (replyText profile01 m stamp number)))
-    ∷ []
-
+-- what is answered and left where the frame is good
 abbrev pub ownReply : Text → Text → Text → ℕ → Answer Text
-ownReply m stamp number room = first (ownTests m stamp number room) (replyText profile01 m stamp number)
+ownReply m stamp number room = first (ownTests profile01 m stamp number room) (replyText profile01 m stamp number)
 
 pub record Acknowledges (m stamp number before : Text) (r : Written) (after : Text) : Type 0 where
   pub answer : writtenOf r ≡ reported (ownReply m stamp number (length before))

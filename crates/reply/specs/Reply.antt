@@ -126,14 +126,17 @@ unfoldable pub replyText : Table → Text → Text → Text → Text
 replyText T m stamp number =
     closed cr (replyHeader m stamp number ∷ replyMSA m (verdict T m) ∷ replyERR (verdict T m))
 
-abbrev pub replyTests : Table → Text → Text → Text → ℕ → List Test
-replyTests T m stamp number room =
-    frameTests m
-    ++ (test BadStamp (not (isStamp stamp))
+-- its own tests, and those of the frame before them
+abbrev pub ownTests : Table → Text → Text → Text → ℕ → List Test
+ownTests T m stamp number room =
+    test BadStamp (not (isStamp stamp))
     ∷ test BadReplyNumber (not (isReplyNumber number))
     ∷ test NoControlNumber (noControl m)
     ∷ test NoRoom (ltb room (length (replyText T m stamp number)))
-    ∷ [])
+    ∷ []
+
+abbrev pub replyTests : Table → Text → Text → Text → ℕ → List Test
+replyTests T m stamp number room = frameTests m ++ ownTests T m stamp number room
 
 -- THE REPLY, for a stamp, a reply number and the length of the lent buffer: 1 to 8, 11 to 14, or the bytes written
 unfoldable pub reply : Table → Text → Text → Text → ℕ → Answer Text

@@ -86,7 +86,7 @@ fn acknowledge(m: &[u8], v: Verdict, stamp: &[u8], number: &[u8], buffer: &mut [
 
 // Writes the reply to a message into the buffer, with that stamp and that reply number.
 pub fn reply(m: &[u8], stamp: &[u8], number: &[u8], buffer: &mut [u8]) -> Written
-    ensures { λ r. ⌜ Replies (now (m .entry)) (now (stamp .entry)) (now (number .entry)) (now (buffer .entry)) r (now (buffer .exit)) ⌝ }
+    ensures { λ r. ⌜ Replies profile01 (now (m .entry)) (now (stamp .entry)) (now (number .entry)) (now (buffer .entry)) r (now (buffer .exit)) ⌝ }
 {
     let v = judge(m);
     match v {

@@ -27,9 +27,9 @@ use Rattle.reader.specs.Told.{placeOf, verdictOf}
 use Rattle.slip.specs.declared.Filed.{Filed}
 use Rattle.slip.specs.declared.Filed.the-variants.{Refused, Slip}
 use Rattle.slip.specs.Slip.{slotSize, slipText}
-use Rattle.slip.specs.Book.{isAccepted, noGroup, file, bookAfter}
+use Rattle.slip.specs.Book.{ownTests, isAccepted, noGroup, file, bookAfter}
 use Rattle.slip.specs.Told.{done, filedOf}
-use Rattle.slip.specs.Inner.{IsOrder, ownTests, ownFiling, FilesOwn}
+use Rattle.slip.specs.Inner.{IsOrder, ownFiling, FilesOwn}
 use Rattle.slip.specs.Promise.{Files}
 
 -- the group's tests
@@ -83,7 +83,7 @@ module _ (m : Text) (g k : ℕ) (before : Text) (v : code-verdict.Verdict) (told
   rest = test NotAccepted (not (isAccepted (verdict profile01 m))) ∷ ownTests m g k before
 
   files : (r : Filed) (after : Text) (a : Answer Text) → file profile01 m g k before ≡ a → filedOf r ≡ done a → after ≡ bookAfter a k before
-      → Files m g k before r after
+      → Files profile01 m g k before r after
   files r after a e p s =
       record { answer = p ∙ ap done (sym e); book = s ∙ ap (λ (x : Answer Text). bookAfter x k before) (sym e) }
 
@@ -91,7 +91,7 @@ module _ (m : Text) (g k : ℕ) (before : Text) (v : code-verdict.Verdict) (told
   unfolding judge
   judged x e = sym e ∙ told
 
-  pub files-frame : (r : Refusal) → v ≡ code-verdict.the-variants.Refused r → Files m g k before (Refused r) before
+  pub files-frame : (r : Refusal) → v ≡ code-verdict.the-variants.Refused r → Files profile01 m g k before (Refused r) before
   unfolding file
   files-frame r e =
       let h : refused r ≡ first (frameTests m) (tt {0}) =
@@ -108,7 +108,7 @@ module _ (m : Text) (g k : ℕ) (before : Text) (v : code-verdict.Verdict) (told
   unfolding file
   through x e = first-passed (frameTests m) rest (slipText m g) (good x e .0)
 
-  pub files-fault : (f : code-fault.Fault) → v ≡ code-verdict.the-variants.Fault f → Files m g k before (Refused NotAccepted) before
+  pub files-fault : (f : code-fault.Fault) → v ≡ code-verdict.the-variants.Fault f → Files profile01 m g k before (Refused NotAccepted) before
   unfolding first
   files-fault f e =
       let x = fault (placeOf (f .place)) (f .reason) in
@@ -119,7 +119,7 @@ module _ (m : Text) (g k : ℕ) (before : Text) (v : code-verdict.Verdict) (told
     pub files-accepted : (framed m ≡ true) × (verdict profile01 m ≡ accepted)
     files-accepted = good accepted (ap verdictOf e)
 
-    pub files-own : (r : Filed) (after : Text) → FilesOwn m g k before r after → Files m g k before r after
+    pub files-own : (r : Filed) (after : Text) → FilesOwn m g k before r after → Files profile01 m g k before r after
     unfolding first
     files-own r after w =
         files r after (ownFiling m g k before) (through accepted (ap verdictOf e) ∙ rw (files-accepted .1)) (w .answer) (w .book)

@@ -7,15 +7,13 @@ use lib.ListN.{length, getD}
 use denote.Ref.{RefT}
 use Rattle.text.specs.Bytes.{Text, within}
 use Rattle.text.specs.Answer.{Answer, refused, given, tell}
-use Rattle.text.specs.declared.refusal.Refusal.{Refusal}
-use Rattle.text.proofs.Answer.{told-refused}
 use Rattle.profile.specs.Profile.{profile01}
-use Rattle.slip.specs.declared.Filed.the-variants.{Refused, Slip}
+use Rattle.slip.specs.declared.Filed.the-variants.{Slip}
 use Rattle.slip.specs.declared.Value.{Value}
 use Rattle.slip.specs.declared.Value.the-variants as value
 use Rattle.slip.specs.declared.reading.SlipValue.{SlipValue}
 use Rattle.slip.specs.Slip.{slipValues, slipText}
-use Rattle.slip.specs.Book.{file, bookAfter}
+use Rattle.slip.specs.Book.{file}
 use Rattle.slip.specs.Read.{Part, slot, readSlip}
 use Rattle.slip.specs.Told.{done, valueOf, startOf, endOf}
 use Rattle.slip.specs.Promise.{Files, ReadsSlip}
@@ -39,14 +37,8 @@ given-step : (a : Answer Text) → given tt ≡ done a → (slip : Text) × (a �
 given-step (refused r) e = absurd (let z : _≡_ {A = ℕ} 0 1 = cc in omega arith)
 given-step (given slip) e = (slip, refl)
 
--- A REFUSAL leaves the book as it was
-pub refused-untouched : (m : Text) (g k : ℕ) (before : Text) (r : Refusal) (after : Text) → Files m g k before (Refused r) after → after ≡ before
-refused-untouched m g k before r after f =
-    f .book
-    ∙ ap (λ (a : Answer Text). bookAfter a k before) (told-refused (λ (t : Text). tt {0}) (file profile01 m g k before) r (f .answer))
-
-module _ (m : Text) (g k : ℕ) (before after : Text) (was-filed : Files m g k before Slip after) where
-  slip-given : (slip : Text) × (file profile01 m g k before ≡ given slip)
+module _ (m : Text) (g k : ℕ) (before after : Text) (was-filed : Files profile01 m g k before Slip after) where
+  pub slip-given : (slip : Text) × (file profile01 m g k before ≡ given slip)
   slip-given = given-step (file profile01 m g k before) (was-filed .answer)
 
   abbrev slip : Text
@@ -77,7 +69,7 @@ module _ (m : Text) (g k : ℕ) (before after : Text) (was-filed : Files m g k b
   trip : RoundTrip profile01 m g k before
   trip = round-trip m g k before slip e
 
-module _ (m : Text) (g k : ℕ) (before after : Text) (was-filed : Files m g k before Slip after) (book : RefT Text) (left : book .now ≡ after) where
+module _ (m : Text) (g k : ℕ) (before after : Text) (was-filed : Files profile01 m g k before Slip after) (book : RefT Text) (left : book .now ≡ after) where
   -- EACH TAG of the slot gives the value that was filed
   pub filed-read : (tag : ℕ) (r : SlipValue) → ReadsSlip book k tag r → handedBack r ≡ valueOfTag tag (slipValues m g)
   filed-read tag r h =

@@ -18,9 +18,9 @@ use Rattle.text.proofs.Tests.{both}
 use Rattle.slip.specs.declared.Value.{Value}
 use Rattle.slip.specs.declared.Value.the-variants as code
 use Rattle.slip.specs.declared.reading.Field.the-variants as field
-use Rattle.slip.specs.Read.{size, hasTag, Expected, expect, expected, taken, isSlipFrom, isSlip, Part, valueFrom, isNone, orNothing, readSlip}
+use Rattle.slip.specs.Read.{mostOf, fieldOf, size, hasTag, Expected, expect, expected, taken, isSlipFrom, isSlip, Part, valueFrom, isNone, orNothing, readSlip}
 use Rattle.slip.specs.Told.{valueOf}
-use Rattle.slip.specs.Inner.{mostOf, fieldOf, ReadsField, readIn}
+use Rattle.slip.specs.Inner.{ReadsField, readIn}
 
 -- the fields of n tags from k on
 unfoldable pub fieldsFrom : ℕ → ℕ → List Expected

@@ -11,21 +11,17 @@ use Rattle.text.specs.Bytes.{Text, pick, byte, printable, every}
 use Rattle.text.specs.Marks.{usual}
 use Rattle.text.specs.Escape.{Stand, outside, begun, meaning, wrong, letter, next, isOutside, endsOutside, badEscape, adding, resolvedFrom, resolved}
 use Rattle.text.specs.declared.marks.Marks.{Marks}
-use Rattle.text.proofs.Tests.{not-true, both}
+use Rattle.text.proofs.Tests.{not-true, both, picks}
 use Rattle.text.proofs.Lists.{and-both}
-
-pick-by : {A : Type 0} (P : A → Type 0) (c : Bool) (x y : A) → P x → P y → P (pick c x y)
-pick-by P true x y p r = p
-pick-by P false x y p r = r
 
 -- what holds behind a letter that means a separator, and behind another byte, holds behind every byte
 letter-by : (P : Stand → Type 0) (q : Marks) (b : ℕ)
     → P (meaning (q .field)) → P (meaning (q .component)) → P (meaning (q .subcomponent)) → P (meaning (q .repetition)) → P (meaning (q .escape)) → P wrong
     → P (letter q b)
 letter-by P q b f s t r e w =
-    pick-by P (eqb b (byte "F")) _ _ f
-    (pick-by P (eqb b (byte "S")) _ _ s
-    (pick-by P (eqb b (byte "T")) _ _ t (pick-by P (eqb b (byte "R")) _ _ r (pick-by P (eqb b (byte "E")) _ _ e w))))
+    picks P (eqb b (byte "F")) f
+    (picks P (eqb b (byte "S")) s
+    (picks P (eqb b (byte "T")) t (picks P (eqb b (byte "R")) r (picks P (eqb b (byte "E")) e w))))
 
 module _ (q : Marks) where
   -- an escape that is begun and ends adds a byte
@@ -68,17 +64,17 @@ plainStand wrong = true
 
 module _ (q : Marks) (p : PlainMarks q) where
   next-plain : (s : Stand) (b : ℕ) → plainStand (next q s b) ≡ true
-  next-plain outside b = pick-by (λ (s : Stand). plainStand s ≡ true) (eqb b (q .escape)) begun outside refl refl
+  next-plain outside b = picks (λ (s : Stand). plainStand s ≡ true) (eqb b (q .escape)) {x = begun} {y = outside} refl refl
   next-plain begun b =
       letter-by (λ (s : Stand). plainStand s ≡ true) q b (p .field) (p .component) (p .subcomponent) (p .repetition) (p .escape) refl
-  next-plain (meaning x) b = pick-by (λ (s : Stand). plainStand s ≡ true) (eqb b (q .escape)) outside wrong refl refl
+  next-plain (meaning x) b = picks (λ (s : Stand). plainStand s ≡ true) (eqb b (q .escape)) {x = outside} {y = wrong} refl refl
   next-plain wrong b = refl
 
   adding-plain : (s : Stand) (b : ℕ) (r : Text) → plainStand s ≡ true → printable b ≡ true → every printable r ≡ true
       → every printable (adding q s b r) ≡ true
   unfolding every
   adding-plain outside b r h e l =
-      pick-by (λ (t : Text). every printable t ≡ true) (eqb b (q .escape)) r (b ∷ r) l (and-both (printable b) (every printable r) e l)
+      picks (λ (t : Text). every printable t ≡ true) (eqb b (q .escape)) {x = r} {y = b ∷ r} l (and-both (printable b) (every printable r) e l)
   adding-plain begun b r h e l = l
   adding-plain (meaning x) b r h e l = and-both (printable x) (every printable r) h l
   adding-plain wrong b r h e l = l

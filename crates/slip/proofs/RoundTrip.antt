@@ -3,13 +3,13 @@ use mathlib.Core.Path.{_≡_, refl, sym, ap, _∙_}
 use Prim.Native.Nat.{ℕ, _+_, _*_, _/_, _≤_}
 use native.Mathlib.Omega.{arith}
 use mathlib.Core.Bool.{Bool, true, false, not}
-use mathlib.Core.List.{List, [], _∷_, _++_}
+use mathlib.Core.List.{List, [], _∷_}
 use mathlib.Core.Option.{Option, none, some}
 use lib.ListN.{length, drop}
 use lib.Dec.{eqb, leb, ltb}
 use borrow.Author.Tests.{eqb-false, not-false}
 use Rattle.text.specs.Bytes.{Text, bytes, within}
-use Rattle.text.specs.Answer.{Answer, refused, given, Test, test, first, passes, tell}
+use Rattle.text.specs.Answer.{Answer, refused, given, test, first, passes, tell}
 use Rattle.text.specs.Escape.{resolved, resolvedFrom}
 use Rattle.text.specs.Marks.{marksOf}
 use Rattle.text.specs.declared.marks.Marks.{Marks}
@@ -17,7 +17,7 @@ use Rattle.text.specs.declared.refusal.Refusal.the-variants.{NotAccepted, NoGro
 use Rattle.text.proofs.Tests.{not-true, empty-some}
 use Rattle.text.proofs.Lists.{or-none}
 use Rattle.text.proofs.Escapes.{resolved-length}
-use Rattle.text.proofs.Answer.{passes-rest, given-passes, first-asked}
+use Rattle.text.proofs.Answer.{passes-rest, passes-both, given-passes, first-asked}
 use Rattle.frame.specs.Frame.{frameTests, framed}
 use Rattle.frame.specs.Segments.{segments, ofName, fewer}
 use Rattle.profile.specs.Profile.{profile01}
@@ -97,14 +97,6 @@ filed-own book slip fs k tag w n r =
     ∙ r .values tag (1024 * k) (filed book slip k) (drop (1024 * k + 1024) book) (filed-from book slip k w room))
 
 -- what a filing tells
-passes-both : (ts us : List Test) → passes (ts ++ us) ≡ true → (passes ts ≡ true) × (passes us ≡ true)
-unfolding passes
-passes-both [] us e = (refl, e)
-passes-both (t ∷ ts) us e =
-    let h = passes-rest (t .applies) (passes (ts ++ us)) e in
-    let l = passes-both ts us (h .1) in
-    (rw (h .0) (l .0), l .1)
-
 accepted-true : (v : Verdict) → isAccepted v ≡ true → v ≡ accepted
 accepted-true accepted e = refl
 accepted-true (fault p n) e = not-true e

@@ -15,8 +15,8 @@ use Rattle.text.proofs.Tests.{both}
 use Rattle.text.proofs.TypeLaws.{part-rest}
 use Rattle.slip.specs.declared.reading.Field.{Field}
 use Rattle.slip.specs.declared.reading.Field.the-variants as field
-use Rattle.slip.specs.Read.{size, value, hasTag, Expected, isThere, taken, isZero, isSlipFrom}
-use Rattle.slip.specs.Inner.{mostOf, fieldOf, ReadsField}
+use Rattle.slip.specs.Read.{mostOf, fieldOf, size, value, hasTag, Expected, isThere, taken, isZero, isSlipFrom}
+use Rattle.slip.specs.Inner.{ReadsField}
 
 -- a field as its bytes in the slip tell it
 module _ (s : Text) (at : ℕ) where

@@ -4,7 +4,9 @@ use native.Mathlib.Omega.{arith}
 use mathlib.Core.Path.{_≡_, refl, sym, _∙_}
 use denote.Ref.{RefT}
 use Rattle.text.specs.Bytes.{Text}
-use Rattle.reader.proofs.Unique.{SamePart, part-same}
+use Rattle.profile.specs.Table.{Table}
+use Rattle.reader.specs.Part.{SamePart}
+use Rattle.reader.proofs.Unique.{part-same}
 use Rattle.slip.specs.declared.Filed.{Filed}
 use Rattle.slip.specs.declared.Filed.the-variants.{Refused, Slip}
 use Rattle.slip.specs.declared.Value.{Value}
@@ -22,9 +24,9 @@ filed-same (Refused a) Slip e = absurd (let z : _≡_ {A = ℕ} 0 1 = cc in omeg
 filed-same Slip (Refused b) e = absurd (let z : _≡_ {A = ℕ} 0 1 = cc in omega arith)
 filed-same Slip Slip e = refl
 
-pub file-unique : (m : Text) (g k : ℕ) (before : Text) (r r' : Filed) (after after' : Text) → Files m g k before r after → Files m g k before r' after'
+pub file-unique : (T : Table) (m : Text) (g k : ℕ) (before : Text) (r r' : Filed) (after after' : Text) → Files T m g k before r after → Files T m g k before r' after'
     → (r ≡ r') × (after ≡ after')
-file-unique m g k before r r' after after' p p' =
+file-unique T m g k before r r' after after' p p' =
     (filed-same r r' (p .answer ∙ sym (p' .answer)), p .book ∙ sym (p' .book))
 
 -- so with a value that is read

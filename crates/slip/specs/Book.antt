@@ -25,13 +25,13 @@ noGroup m g = eqb g 0 || ltb (length (ofName (bytes "OBR") (segments m))) g
 abbrev pub noSlot : Text → ℕ → Bool
 noSlot book k = leb (length book / slotSize) k
 
+-- the tests of an accepted message, and those before them
+abbrev pub ownTests : Text → ℕ → ℕ → Text → List Test
+ownTests m g k book = test NoGroup (noGroup m g) ∷ test NoSlot (noSlot book k) ∷ []
+
 abbrev pub fileTests : Table → Text → ℕ → ℕ → Text → List Test
 fileTests T m g k book =
-    frameTests m
-    ++ (test NotAccepted (not (isAccepted (verdict T m)))
-    ∷ test NoGroup (noGroup m g)
-    ∷ test NoSlot (noSlot book k)
-    ∷ [])
+    frameTests m ++ (test NotAccepted (not (isAccepted (verdict T m))) ∷ ownTests m g k book)
 
 -- FILING group g in slot k
 unfoldable pub file : Table → Text → ℕ → ℕ → Text → Answer Text

@@ -1,7 +1,7 @@
 -- Reading a slip: 17 to 19, or the tag's value as that part of the book.
 use Prim.Native.Nat.{ℕ, _+_, _*_}
 use mathlib.Core.Bool.{Bool, true, false, not, _&&_}
-use mathlib.Core.List.{List, [], _∷_}
+use mathlib.Core.List.{List, [], _∷_, map}
 use mathlib.Core.Option.{Option, none, some}
 use lib.ListN.{getD, take, drop}
 use lib.Dec.{eqb, leb}
@@ -31,8 +31,15 @@ pub record Expected : Type 0 where
 abbrev pub expect : ℕ → ℕ → Bool → Expected
 expect k n b = record { tag = k; most = n; optional = b }
 
+-- 20 bytes (tag 1) or 199; tag 3 may be left out
+abbrev pub mostOf : ℕ → ℕ
+mostOf k = pick (eqb k 1) 20 199
+
+abbrev pub fieldOf : ℕ → Expected
+fieldOf k = expect k (mostOf k) (eqb k 3)
+
 abbrev pub expected : List Expected
-expected = expect 1 20 false ∷ expect 2 199 false ∷ expect 3 199 true ∷ expect 4 199 false ∷ expect 5 199 false ∷ []
+expected = map fieldOf (1 ∷ 2 ∷ 3 ∷ 4 ∷ 5 ∷ [])
 
 -- it stands there as it should, or is left out as it may be
 abbrev pub isThere : Expected → Text → Bool
@@ -85,12 +92,13 @@ orNothing (some p) = p
 abbrev pub slot : Text → ℕ → Text
 slot book k = take slotSize (drop (slotSize * k) book)
 
+-- the tests of a slot that begins at `base` of the book, and the one before them
+abbrev pub slipTests : Text → ℕ → ℕ → List Test
+slipTests s base tag =
+    test BadSlip (not (isSlip s)) ∷ test NoTag (isNone (valueFrom expected tag base s)) ∷ []
+
 abbrev pub readTests : Text → ℕ → ℕ → List Test
-readTests book k tag =
-    test NoSlot (noSlot book k)
-    ∷ test BadSlip (not (isSlip (slot book k)))
-    ∷ test NoTag (isNone (valueFrom expected tag (slotSize * k) (slot book k)))
-    ∷ []
+readTests book k tag = test NoSlot (noSlot book k) ∷ slipTests (slot book k) (slotSize * k) tag
 
 -- READING a tag of the slip in slot k
 unfoldable pub readSlip : Text → ℕ → ℕ → Answer Part

@@ -91,7 +91,7 @@ fn file_accepted(m: &[u8], group: u64, slot: usize, book: &mut [u8]) -> Filed
 
 // Files the slip of a group of the message in a slot of the book.
 pub fn file(m: &[u8], group: u64, slot: usize, book: &mut [u8]) -> Filed
-    ensures { λ r. ⌜ Files (now (m .entry)) group slot (now (book .entry)) r (now (book .exit)) ⌝ }
+    ensures { λ r. ⌜ Files profile01 (now (m .entry)) group slot (now (book .entry)) r (now (book .exit)) ⌝ }
 {
     match judge(m) {
         Verdict::Refused(r) => Filed::Refused(r),

@@ -14,6 +14,15 @@ pub passes-rest : (b r : Bool) → pick b false r ≡ true → (b ≡ false) × 
 passes-rest true r e = not-true e
 passes-rest false r e = (refl, e)
 
+-- tests one behind the other pass together
+pub passes-both : (ts us : List Test) → passes (ts ++ us) ≡ true → (passes ts ≡ true) × (passes us ≡ true)
+unfolding passes
+passes-both [] us e = (refl, e)
+passes-both (t ∷ ts) us e =
+    let h = passes-rest (t .applies) (passes (ts ++ us)) e in
+    let l = passes-both ts us (h .1) in
+    (rw (h .0) (l .0), l .1)
+
 -- tests that pass in front of others leave the answer to those
 pub first-passed : {A : Type 0} (ts us : List Test) (a : A) → passes ts ≡ true → first (ts ++ us) a ≡ first us a
 unfolding first passes

@@ -9,7 +9,7 @@ use lib.ListN.{length, getD, drop, drop-of-length-le}
 use lib.Seq.{drop-cons}
 use lib.Dec.{eqb}
 use borrow.Author.Tests.{eq-eqb, ne-eqb, eqb-true}
-use Rattle.text.specs.Bytes.{Text, empty, same}
+use Rattle.text.specs.Bytes.{Text, pick, empty, same}
 
 -- what is false is not true
 pub not-true : {A : Type 0} → false ≡ true → A
@@ -68,3 +68,8 @@ module _ (s t : Text) (i : ℕ) where
   pub same-end : length s ≤ i → length t ≤ i → same (drop i s) (drop i t) ≡ true
   unfolding same
   same-end h l = rw (drop-of-length-le s h, drop-of-length-le t l)
+
+-- what holds of both holds of the one that is picked
+pub picks : {A : Type 0} (P : A → Type 0) (b : Bool) {x y : A} → P x → P y → P (pick b x y)
+picks P true h k = h
+picks P false h k = k

@@ -1,11 +1,11 @@
 -- Escapes, read from the left: \F\ \S\ \T\ \R\ \E\ stand for the five separators | ^ & ~ \.
 use Prim.Native.Nat.{ℕ}
 use mathlib.Core.Bool.{Bool, true, false, not}
-use mathlib.Core.List.{[], _∷_}
+use mathlib.Core.List.{List, [], _∷_}
 use lib.ListN.{length}
 use lib.Dec.{eqb, ltb}
 use Rattle.text.specs.Bytes.{Text, pick, byte}
-use Rattle.text.specs.Answer.{Answer, test, first}
+use Rattle.text.specs.Answer.{Answer, Test, test, first}
 use Rattle.text.specs.declared.marks.Marks.{Marks}
 use Rattle.text.specs.declared.refusal.Refusal.the-variants.{NoRoom, BadEscape}
 
@@ -60,7 +60,10 @@ resolvedFrom q s (b ∷ t) = adding q s b (resolvedFrom q (next q s b) t)
 abbrev pub resolved : Marks → Text → Text
 resolved q t = resolvedFrom q outside t
 
+abbrev pub resolveTests : Marks → Text → ℕ → List Test
+resolveTests q t room =
+    test BadEscape (badEscape q t) ∷ test NoRoom (ltb room (length (resolved q t))) ∷ []
+
 -- RESOLVING into a lent buffer of that length: 20, then 14, or the bytes written
 unfoldable pub resolve : Marks → Text → ℕ → Answer Text
-resolve q t room =
-    first (test BadEscape (badEscape q t) ∷ test NoRoom (ltb room (length (resolved q t))) ∷ []) (resolved q t)
+resolve q t room = first (resolveTests q t room) (resolved q t)

@@ -1,5 +1,6 @@
 pub mod Bytes
 pub mod Answer
+pub mod First
 pub mod Decimal
 pub mod Puts
 pub mod Marks
