@@ -1,4 +1,4 @@
--- Demand 3 over the definitions: the answers for a struck message are those for the message as it came.
+-- Over the definitions: the answers for a struck message are those for the message as it came.
 use mathlib.Core.Path.{_≡_, refl, sym, ap, _∙_}
 use mathlib.Core.Logic.{_⊎_, inl, inr}
 use Prim.Native.Nat.{ℕ, zero, suc, _+_, _-_, _<_}
@@ -6,17 +6,16 @@ use native.Mathlib.Nat.{le-of-suc-le-suc, not-suc-le-zero}
 use native.Mathlib.Omega.{arith}
 use mathlib.Core.Bool.{Bool, true, false, not, _&&_, _||_}
 use mathlib.Core.List.{List, [], _∷_, map}
-use lib.ListN.{length, getD, take, drop, length-map}
+use lib.ListN.{length, getD, take, drop}
 use lib.Dec.{eqb}
 use Rattle.text.specs.Bytes.{Text, pick, bytes, empty, keep, same}
 use Rattle.text.specs.Answer.{Test, test, first}
 use Rattle.text.specs.declared.refusal.Refusal.the-variants.{BadPlace, NoSegment}
 use Rattle.text.specs.declared.marks.Marks.{Marks}
 use Rattle.text.specs.Marks.{marksOf}
-use Rattle.text.proofs.Tests.{not-true, both, same-true}
+use Rattle.text.proofs.Tests.{both, same-true}
 use Rattle.text.proofs.Lists.{All, every-all, all-kept, some-mono}
 use Rattle.text.proofs.Answer.{first-passed, first-given, tell-first}
-use Rattle.parts.specs.Split.{piece}
 use Rattle.frame.specs.Segments.{segments, name, named, ofName, occurrence}
 use Rattle.frame.specs.Frame.{frameTests, framed}
 use Rattle.profile.specs.Table.{Table, Row, isListed}
@@ -29,46 +28,13 @@ use Rattle.slip.specs.Slip.{observations, observationsFrom, observationsOf, sli
 use Rattle.slip.specs.Book.{file}
 use Rattle.demands.specs.Strike.{hasLeaf, leavesAt, strikeSegment, strike}
 use Rattle.demands.specs.Fit.{listsComponent, hasRow, fit, Copied, copied, copies, hasCopies}
-use Rattle.demands.specs.Unmoved.{Shown, shown, lookUpShown, isListedPlace, Unmoved}
-use Rattle.demands.proofs.Shrink.{sub-empty}
-use Rattle.demands.proofs.Kept.{name-struck, leaf-struck, segment-sub}
+use Rattle.demands.specs.Demand3.{Shown, shown, lookUpShown, isListedPlace}
+use Rattle.demands.proofs.Kept.{name-struck}
 use Rattle.demands.proofs.Seen.{has-row}
 use Rattle.demands.proofs.Message.{L, strikes, segments-struck, view-same, frame-struck, marks-struck}
+use Rattle.demands.proofs.Listed.{not-named, found-named, occurrences-same, text-none, text-same}
 
--- 1. The segments of a listed name
-module _ (T : Table) (q : Marks) (n : Text) (listed : isListed T n ≡ true) where
-  -- a segment of that name is listed, and one that is not listed is not of that name
-  named-listed : (x : Text) → named n x ≡ true → L T q x ≡ true
-  named-listed x e = rw (same-true (name x) n e) listed
-
-  not-named : (x : Text) (b : Bool) → named n x ≡ b → L T q x ≡ false → b ≡ false
-  not-named x true e f = not-true (sym f ∙ named-listed x e)
-  not-named x false e f = refl
-
-  name-step : (x : Text) (ls ss : List Text) (b c : Bool) → L T q x ≡ b → named n x ≡ c
-      → ofName n (map (strikeSegment T q) ls) ≡ map (strikeSegment T q) (ofName n ss)
-      → ofName n (map (strikeSegment T q) (pick b (x ∷ ls) ls)) ≡ map (strikeSegment T q) (pick c (x ∷ ofName n ss) (ofName n ss))
-  unfolding keep
-  name-step x ls ss true true e f h = rw (name-struck T q x, f, h)
-  name-step x ls ss true false e f h = rw (name-struck T q x, f, h)
-  name-step x ls ss false true e f h = not-true (sym e ∙ named-listed x f)
-  name-step x ls ss false false e f h = h
-
-  pub ofName-struck : (ss : List Text) → ofName n (strikes T q ss) ≡ map (strikeSegment T q) (ofName n ss)
-  unfolding keep
-  ofName-struck [] = refl
-  ofName-struck (x ∷ ss) = name-step x (keep (L T q) ss) ss (L T q x) (named n x) refl refl (ofName-struck ss)
-
-getD-map : (f : Text → Text) (l : List Text) (i : ℕ) → f [] ≡ [] → getD (map f l) i [] ≡ f (getD l i [])
-getD-map f [] i e = sym e
-getD-map f (x ∷ l) zero e = refl
-getD-map f (x ∷ l) (suc i) e = getD-map f l i e
-
-piece-map : (f : Text → Text) (l : List Text) (n : ℕ) → f [] ≡ [] → piece n (map f l) ≡ f (piece n l)
-piece-map f l zero e = sym e
-piece-map f l (suc i) e = getD-map f l i e
-
--- 2. The count of a group's observations
+-- 1. The count of a group's observations
 module _ (T : Table) (q : Marks) (obr : isListed T (bytes "OBR") ≡ true) (obx : isListed T (bytes "OBX") ≡ true) where
   abbrev R : Text → Bool
   R x = named (bytes "OBR") x
@@ -107,7 +73,7 @@ module _ (T : Table) (q : Marks) (obr : isListed T (bytes "OBR") ≡ true) (obx 
   from-struck [] i = refl
   from-struck (x ∷ ss) i = from-step x (keep (L T q) ss) ss (L T q x) refl (observations-struck ss) (from-struck ss) i
 
--- 3. Rows and listed names
+-- 2. Rows and listed names
 row-lists : (T : Table) (n : Text) (f c : ℕ) → hasRow T n f c ≡ true → isListed T n ≡ true
 row-lists T n f c h =
     some-mono (λ (r : Row). (same (r .segment) n && eqb (r .field) f) && listsComponent c (r .lists)) (λ (r : Row). same (r .segment) n)
@@ -121,23 +87,17 @@ copy-rows : (T : Table) → hasCopies T ≡ true → All (λ (c : Copied). hasRo
 unfolding hasCopies
 copy-rows T cs = every-all (λ (c : Copied). hasRow T (c .segment) (c .field) (c .component)) copies cs
 
+-- so the header is listed
+pub header-listed : (T : Table) → hasCopies T ≡ true → isListed T (bytes "MSH") ≡ true
+header-listed T cs = row-lists T (bytes "MSH") 3 1 (copy-rows T cs .0)
+
 -- a member of a list by its number
 member : {A : Type 0} (P : A → Type 0) (d : A) (l : List A) → All P l → (i : ℕ) → i < length l → P (getD l i d)
 member P d [] a i h = absurd (not-suc-le-zero h)
 member P d (x ∷ l) a zero h = a .0
 member P d (x ∷ l) a (suc i) h = member P d l (a .1) i (le-of-suc-le-suc h)
 
--- what is found of a name has that name, or is nothing
-found-named : (n : Text) (l : List Text) → All (λ x. named n x ≡ true) l → (o : ℕ) → (piece o l ≡ []) ⊎ (named n (piece o l) ≡ true)
-found-named n l a zero = inl refl
-found-named n l a (suc i) = go l a i
-  where
-    go : (l : List Text) → All (λ x. named n x ≡ true) l → (i : ℕ) → (getD l i [] ≡ []) ⊎ (named n (getD l i []) ≡ true)
-    go [] a i = inl refl
-    go (x ∷ l) a zero = inr (a .0)
-    go (x ∷ l) a (suc i) = go l (a .1) i
-
--- a look-up's text by its bytes
+-- 3. A look-up's text by its bytes
 shown-by : (m t : Text) (a : ℕ) (b : Bool) → take (length t) (drop a m) ≡ t
     → shown m (pick b Empty (Text-from-to a (a + length t))) ≡ pick b Shown.Empty (Shown.Bytes t)
 shown-by m t a true h = refl
@@ -160,15 +120,15 @@ module _ (T : Table) (ok : fit T ≡ true) (cs : hasCopies T ≡ true) (m : Text
   rows = copy-rows T cs
 
   msh : isListed T (bytes "MSH") ≡ true
-  msh = row-lists T (bytes "MSH") 3 1 (rows .0)
+  msh = header-listed T cs
 
-  good′ : framed m′ ≡ true
+  pub good′ : framed m′ ≡ true
   good′ = frame-struck T msh m good
 
   marks : marksOf m′ ≡ q
   marks = marks-struck T msh m good
 
-  checks-same : checks T m′ ≡ checks T m
+  pub checks-same : checks T m′ ≡ checks T m
   unfolding checks
   checks-same = rw (marks, view-same T m ok marks)
 
@@ -176,42 +136,18 @@ module _ (T : Table) (ok : fit T ≡ true) (cs : hasCopies T ≡ true) (m : Text
   unfolding verdict
   verdict-same = rw checks-same
 
-  judge-same : judge T m′ ≡ judge T m
+  pub judge-same : judge T m′ ≡ judge T m
   unfolding judge
   judge-same =
       first-given (frameTests m′) (verdict T m′) good′
       ∙ rw verdict-same (sym (first-given (frameTests m) (verdict T m) good))
 
-  -- the occurrences of a listed name
-  none-struck : strikeSegment T q [] ≡ []
-  none-struck = sub-empty (segment-sub T q [])
-
-  named-struck : (n : Text) → isListed T n ≡ true → ofName n (segments m′) ≡ map (strikeSegment T q) (ofName n (segments m))
-  named-struck n l = rw (segments-struck T m) (ofName-struck T q n l (segments m))
-
-  occurrence-struck : (n : Text) (o : ℕ) → isListed T n ≡ true → occurrence m′ n o ≡ strikeSegment T q (occurrence m n o)
-  occurrence-struck n o l =
-      ap (piece o) (named-struck n l) ∙ piece-map (strikeSegment T q) (ofName n (segments m)) o none-struck
-
-  occurrences-same : (n : Text) → isListed T n ≡ true → length (ofName n (segments m′)) ≡ length (ofName n (segments m))
-  occurrences-same n l = ap length (named-struck n l) ∙ length-map (ofName n (segments m)) (strikeSegment T q)
-
-  -- the text at a listed place
-  text-same : (p : Place) → isListed T (p .name) ≡ true
-      → hasLeaf (leavesAt T q (occurrence m (p .name) (p .occurrence)) (p .field)) (p .component) (p .subcomponent) ≡ true
-      → textAt m′ p ≡ textAt m p
-  unfolding textAt
-  text-same p l h =
-      rw (marks, occurrence-struck (p .name) (p .occurrence) l)
-      (leaf-struck T q (occurrence m (p .name) (p .occurrence)) (p .field) (p .repetition) (p .component) (p .subcomponent) h)
-
   -- the text of a leaf that is copied
   copied-by : (n : Text) (o f c : ℕ) → hasRow T n f c ≡ true → (occurrence m n o ≡ []) ⊎ (named n (occurrence m n o) ≡ true)
       → textAt m′ (place n o f 1 c 1) ≡ textAt m (place n o f 1 c 1)
-  copied-by n o f c h (inl e) =
-      unfold textAt in rw (marks, occurrence-struck n o (row-lists T n f c h), e, none-struck)
+  copied-by n o f c h (inl e) = text-none T m marks (place n o f 1 c 1) (row-lists T n f c h) e
   copied-by n o f c h (inr e) =
-      text-same (place n o f 1 c 1) (row-lists T n f c h)
+      text-same T m marks (place n o f 1 c 1) (row-lists T n f c h)
       (has-row T q (occurrence m n o) f c (rw (same-true (name (occurrence m n o)) n e) h))
 
   copied-same : (n : Text) (o f c : ℕ) → hasRow T n f c ≡ true → textAt m′ (place n o f 1 c 1) ≡ textAt m (place n o f 1 c 1)
@@ -247,7 +183,7 @@ module _ (T : Table) (ok : fit T ≡ true) (cs : hasCopies T ≡ true) (m : Text
         verdict-same,
       )
 
-  reply-same : (stamp number : Text) (room : ℕ) → reply T m′ stamp number room ≡ reply T m stamp number room
+  pub reply-same : (stamp number : Text) (room : ℕ) → reply T m′ stamp number room ≡ reply T m stamp number room
   unfolding reply
   reply-same stamp number room =
       first-passed (frameTests m′) _ (replyText T m′ stamp number) good′
@@ -278,11 +214,11 @@ module _ (T : Table) (ok : fit T ≡ true) (cs : hasCopies T ≡ true) (m : Text
         observations-same g,
       )
 
-  file-same : (g k : ℕ) (book : Text) → file T m′ g k book ≡ file T m g k book
+  pub file-same : (g k : ℕ) (book : Text) → file T m′ g k book ≡ file T m g k book
   unfolding file
   file-same g k book =
       first-passed (frameTests m′) _ (slipText m′ g) good′
-      ∙ rw (verdict-same, occurrences-same (bytes "OBR") obr, slip-same g)
+      ∙ rw (verdict-same, occurrences-same T m (bytes "OBR") obr, slip-same g)
       (sym (first-passed (frameTests m) _ (slipText m g) good))
 
   -- the look-up
@@ -306,25 +242,13 @@ module _ (T : Table) (ok : fit T ≡ true) (cs : hasCopies T ≡ true) (m : Text
       → (tooFew m p || hasLeaf (leavesAt T q (occurrence m (p .name) (p .occurrence)) (p .field)) (p .component) (p .subcomponent) ≡ true)
       → tooFew m p ≡ false → shown m′ (found m′ p) ≡ shown m (found m p)
   look-listed p l h f =
-      shown-text m′ p ∙ rw (text-same p l (rw f at h)) (sym (shown-text m p))
+      shown-text m′ p ∙ rw (text-same T m marks p l (rw f at h)) (sym (shown-text m p))
 
-  look-same : (p : Place) → isListedPlace T m p ≡ true → lookUpShown m′ p ≡ lookUpShown m p
+  pub look-same : (p : Place) → isListedPlace T m p ≡ true → lookUpShown m′ p ≡ lookUpShown m p
   look-same p e =
       let w = both (isListed T (p .name)) _ e in
-      let few : tooFew m′ p ≡ tooFew m p = rw (occurrences-same (p .name) (w .0)) in
+      let few : tooFew m′ p ≡ tooFew m p = rw (occurrences-same T m (p .name) (w .0)) in
       look-rest m′ p good′
       ∙ rw few
       (look-by (not (isPlace p)) (shown m′ (found m′ p)) (shown m (found m p)) (tooFew m p) (look-listed p (w .0) (w .1))
       ∙ sym (look-rest m p good))
-
-  -- DEMAND 3, for every table that is fit and has rows for what replies and slips copy
-  pub demand3 : Unmoved T m
-  demand3 =
-      record {
-        frame = good′;
-        all-checks = checks-same;
-        verdict = judge-same;
-        looks = look-same;
-        replies = reply-same;
-        slips = file-same;
-      }

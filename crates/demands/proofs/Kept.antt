@@ -14,18 +14,17 @@ use Rattle.text.proofs.Lists.{some-mono}
 use Rattle.parts.specs.Split.{split, piece}
 use Rattle.parts.specs.Descent.{part, inField}
 use Rattle.frame.specs.Segments.{name, isHeader, headerField, field, unsplit}
-use Rattle.profile.specs.Table.{Table, Leaf, Row, leavesIn}
+use Rattle.profile.specs.Table.{Table, Leaf, Row}
 use Rattle.reader.specs.Place.{leafAt, leafOf}
-use Rattle.reader.specs.View.{namedIn}
 use Rattle.demands.specs.Strike.{rewritten, hasComponent, hasLeaf, strikeSubcomponent, strikeComponent, strikeRepetition, rowsAt, hasField, leavesAt, strikeField, afterNinth, strikeAfterNinth, strikeHeader, strikeOther, strikeSegment}
 use Rattle.demands.proofs.Shrink.{Sub, sub-self, sub-only, sub-behind, take-front, drop-front, Shrinks, rewritten-sub, piece-rewritten, rewritten-empty}
 
 -- 1. Of a repetition, the listed leaves stay
 module _ (q : Marks) (ls : List Leaf) where
-  subcomponent-shrinks : (c : ℕ) → Shrinks (strikeSubcomponent ls c)
+  pub subcomponent-shrinks : (c : ℕ) → Shrinks (strikeSubcomponent ls c)
   subcomponent-shrinks c b t = sub-only (hasLeaf ls c b) (sub-self t)
 
-  component-shrinks : Shrinks (strikeComponent q ls)
+  pub component-shrinks : Shrinks (strikeComponent q ls)
   component-shrinks c t =
       sub-only (hasComponent ls c) (rewritten-sub (q .subcomponent) (strikeSubcomponent ls c) (subcomponent-shrinks c) t)
 
@@ -63,8 +62,12 @@ module _ (T : Table) (q : Marks) (s : Text) where
   pub has-field : (f c b : ℕ) → hasLeaf (leavesAt T q s f) c b ≡ true → hasField T (name s) f ≡ true
   unfolding leavesAt
   has-field f c b h =
-      some-row (λ (l : Leaf). eqb (l .component) c && eqb (l .subcomponent) b)
-      (λ (r : Row). leavesIn T (namedIn q s) (r .lists)) (rowsAt T (name s) f) h
+      some-row _ _ (rowsAt T (name s) f) h
+
+  pub component-field : (f c : ℕ) → hasComponent (leavesAt T q s f) c ≡ true → hasField T (name s) f ≡ true
+  unfolding leavesAt
+  component-field f c h =
+      some-row _ _ (rowsAt T (name s) f) h
 
   -- 2. Of a field, the listed leaves of each repetition stay
   abbrev pub strikeIn : ℕ → ℕ → Text → Text
@@ -86,7 +89,7 @@ module _ (T : Table) (q : Marks) (s : Text) where
       (leaf-kept q (leavesAt T q s f) (piece r (split (q .repetition) t)) c b h)
 
   -- 3. The segment's fields, each struck
-  after-shrinks : Shrinks (strikeAfterNinth T q s)
+  pub after-shrinks : Shrinks (strikeAfterNinth T q s)
   after-shrinks k t = field-shrinks (afterNinth k) t
 
   header-front : (j : ℕ) → j ≤ 9 → take j (strikeHeader T q s) ≡ take j s

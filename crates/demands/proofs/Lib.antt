@@ -1,6 +1,16 @@
+pub mod Contracts
+pub mod Judged
+pub mod Demand1
+pub mod Counts
+pub mod Idle
+pub mod Demand2
 pub mod Shrink
 pub mod Kept
 pub mod Seen
 pub mod Message
+pub mod Listed
 pub mod Answers
-pub mod Profile
+pub mod Demand3
+pub mod Gone
+pub mod Separators
+pub mod Struck

@@ -21,7 +21,7 @@ use Rattle.reader.specs.Place.{leafOf, repetitions}
 use Rattle.reader.specs.View.{Field, entriesOf, filledFrom, namedIn, fieldSeen, segmentSeen}
 use Rattle.demands.specs.Strike.{change, hasLeaf, rowsAt, hasField, leavesAt, strikeField, strikeSegment}
 use Rattle.demands.specs.Fit.{listsComponent, hasRow, namerListed, mayRepeat, rowFit, fit}
-use Rattle.demands.proofs.Shrink.{change-length, split-rewritten, rewritten-empty}
+use Rattle.demands.proofs.Shrink.{split-rewritten, count-rewritten, rewritten-empty}
 use Rattle.demands.proofs.Kept.{leaf-kept, unless, strikeIn, in-shrinks, name-struck, field-struck, unsplit-struck, leaf-struck}
 
 -- 1. Members and tests
@@ -59,17 +59,22 @@ unfolding some
 lists-leaf T names c (leaf l) e = or-left (eqb (l .component) c && eqb (l .subcomponent) 1) false e
 lists-leaf T names c (named-by g) e = not-true e
 
-pub has-row : (T : Table) (q : Marks) (s : Text) (f c : ℕ) → hasRow T (name s) f c ≡ true → hasLeaf (leavesAt T q s f) c 1 ≡ true
-unfolding leavesAt rowsAt
-has-row T q s f c h =
-    let k : Row → Bool = λ r. same (r .segment) (name s) && eqb (r .field) f in
+row-listed : (T : Table) (names : ℕ → Text) (n : Text) (f c : ℕ) → hasRow T n f c ≡ true
+    → hasLeaf (flatMap (λ (r : Row). leavesIn T names (r .lists)) (rowsAt T n f)) c 1 ≡ true
+unfolding rowsAt
+row-listed T names n f c h =
+    let k : Row → Bool = λ r. same (r .segment) n && eqb (r .field) f in
     let g : Leaf → Bool = λ l. eqb (l .component) c && eqb (l .subcomponent) 1 in
-    some-flatMap k g (λ (r : Row). leavesIn T (namedIn q s) (r .lists)) (T .rows)
-    (some-mono (λ (r : Row). k r && listsComponent c (r .lists)) (λ (r : Row). k r && some g (leavesIn T (namedIn q s) (r .lists)))
+    some-flatMap k g (λ (r : Row). leavesIn T names (r .lists)) (T .rows)
+    (some-mono (λ (r : Row). k r && listsComponent c (r .lists)) (λ (r : Row). k r && some g (leavesIn T names (r .lists)))
     (λ r e.
     let w = both (k r) (listsComponent c (r .lists)) e in
-    and-both (k r) (some g (leavesIn T (namedIn q s) (r .lists))) (w .0) (lists-leaf T (namedIn q s) c (r .lists) (w .1)))
+    and-both (k r) (some g (leavesIn T names (r .lists))) (w .0) (lists-leaf T names c (r .lists) (w .1)))
     (T .rows) h)
+
+pub has-row : (T : Table) (q : Marks) (s : Text) (f c : ℕ) → hasRow T (name s) f c ≡ true → hasLeaf (leavesAt T q s f) c 1 ≡ true
+unfolding leavesAt
+has-row T q s f c h = row-listed T _ (name s) f c h
 
 -- 3. The rows of a segment, before and after
 module _ (T : Table) (q : Marks) (s : Text) where
@@ -168,7 +173,7 @@ module _ (T : Table) (q : Marks) (s : Text) (f : ℕ) (has : hasField T (name s)
   struck-split t = rw has (split-rewritten (q .repetition) (strikeIn T q s f) (in-shrinks T q s f) t)
 
   struck-count : (t : Text) → length (split (q .repetition) (struck t)) ≡ length (split (q .repetition) t)
-  struck-count t = ap length (struck-split t) ∙ change-length (strikeIn T q s f) (split (q .repetition) t)
+  struck-count t = rw has (count-rewritten (q .repetition) (strikeIn T q s f) (in-shrinks T q s f) t)
 
   struck-none : struck [] ≡ []
   struck-none = rw has (rewritten-empty (q .repetition) (strikeIn T q s f) (in-shrinks T q s f))

@@ -1,5 +1,5 @@
 -- What is left of a text when bytes are struck out, and what a rewritten text is cut into.
-use mathlib.Core.Path.{_≡_, refl, sym, ap}
+use mathlib.Core.Path.{_≡_, refl, sym, ap, _∙_}
 use Prim.Native.Nat.{ℕ, zero, suc, _≤_, zero-le}
 use native.Mathlib.Omega.{arith}
 use mathlib.Core.Bool.{Bool, true, false}
@@ -103,7 +103,7 @@ change-at f [] i h = sym (sub-empty (h (suc i) []))
 change-at f (p ∷ ps) zero h = refl
 change-at f (p ∷ ps) (suc i) h = change-at (λ k. f (suc k)) ps i (λ k. h (suc k))
 
-pub change-length : (f : ℕ → Text → Text) (ps : List Text) → length (change f ps) ≡ length ps
+change-length : (f : ℕ → Text → Text) (ps : List Text) → length (change f ps) ≡ length ps
 unfolding change
 change-length f [] = refl
 change-length f (p ∷ ps) = ap suc (change-length (λ k. f (suc k)) ps)
@@ -115,6 +115,9 @@ module _ (sep : ℕ) (f : ℕ → Text → Text) (h : Shrinks f) (t : Text) wher
   split-rewritten =
       split-join sep (change f (split sep t)) (change-some f (split sep t) (split-some sep t))
       (change-free sep f (split sep t) h (split-free sep t))
+
+  pub count-rewritten : length (split sep (rewritten sep f t)) ≡ length (split sep t)
+  count-rewritten = ap length split-rewritten ∙ change-length f (split sep t)
 
   pub rewritten-sub : Sub (rewritten sep f t) t
   unfolding rewritten

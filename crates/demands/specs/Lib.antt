@@ -1,3 +1,7 @@
+pub mod Demand1
+pub mod Idle
+pub mod Demand2
 pub mod Strike
 pub mod Fit
-pub mod Unmoved
+pub mod Demand3
+pub mod Struck

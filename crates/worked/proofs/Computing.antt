@@ -22,8 +22,7 @@ use Rattle.reply.specs.Reply.{trimmed, copiedHD, replyText, reply}
 use Rattle.slip.specs.Slip.{observations, observationsFrom, slipOf, slipText}
 use Rattle.slip.specs.Book.{file}
 use Rattle.slip.specs.Read.{isSlipFrom, valueFrom, readSlip}
-use Rattle.demands.specs.Strike.{change, rewritten, rowsAt, leavesAt, strikeSegment, strike}
 
 unfoldable pub computing : Unit {0}
-unfolding flatMap every some keep same first marksOf endsOutside resolvedFrom resolve digits rest twos split before ended led join closed part partStart field fieldStart ahead endsWithCR frameTests typeLeaves gathered rulesOf rows profile01 leafAt leafStart repetitions textAt startAt lookUp filledFrom fieldSeen segmentSeen view walk checks firstBroken verdict judge digitsBefore faultLine textLine trimmed copiedHD replyText reply observations observationsFrom slipOf slipText file isSlipFrom valueFrom readSlip change rewritten rowsAt leavesAt strikeSegment strike
+unfolding flatMap every some keep same first marksOf endsOutside resolvedFrom resolve digits rest twos split before ended led join closed part partStart field fieldStart ahead endsWithCR frameTests typeLeaves gathered rulesOf rows profile01 leafAt leafStart repetitions textAt startAt lookUp filledFrom fieldSeen segmentSeen view walk checks firstBroken verdict judge digitsBefore faultLine textLine trimmed copiedHD replyText reply observations observationsFrom slipOf slipText file isSlipFrom valueFrom readSlip
 computing = tt

@@ -1,7 +1,7 @@
 -- The hard cases hold of the definitions.
 use mathlib.Core.Path.{refl}
 use Rattle.worked.specs.Worked.{AllHold}
-use Rattle.worked.specs.Hard.{frames, looks, escapes, types, faults, observations, replies, slips, books, strikes}
+use Rattle.worked.specs.Hard.{frames, looks, escapes, types, faults, observations, replies, slips, books}
 use Rattle.worked.proofs.Computing.{computing}
 use Rattle.worked.proofs.Examples.{failing, all-hold}
 
@@ -40,7 +40,3 @@ slips-hold = all-hold slips refl
 pub books-hold : AllHold books
 unfolding computing failing books
 books-hold = all-hold books refl
-
-pub strikes-hold : AllHold strikes
-unfolding computing failing strikes
-strikes-hold = all-hold strikes refl

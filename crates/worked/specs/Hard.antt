@@ -16,8 +16,7 @@ use Rattle.line.specs.Line.{lookLine}
 use Rattle.reply.specs.Reply.{reply}
 use Rattle.slip.specs.Book.{file, bookAfter}
 use Rattle.slip.specs.Read.{isSlip, readSlip}
-use Rattle.demands.specs.Strike.{strike}
-use Rattle.worked.specs.Messages.{message, msh, pid, obr, obx, M, withMSH, withPID, withOBX, withLine, desk, outcome, replyTo, slipOf, partLine}
+use Rattle.worked.specs.Messages.{message, msh, pid, obr, obx, M, withMSH, withPID, withOBX, twoOrders, desk, outcome, replyTo, slipOf, partLine}
 use Rattle.worked.specs.Worked.{Example, _says_}
 
 abbrev yesNo : Bool → Text
@@ -237,7 +236,7 @@ replies =
     ∷ (outcome (reply profile01 M (bytes "20240305101501") (letters 20) 96) says bytes "refused 14")
     ∷ []
 
--- M with the longest values, the second OBR leaf written with an escape
+-- M with the longest values, OBR-2 written with an escape
 abbrev longest : Text
 longest =
     bytes "MSH|^~\\&|LABSYS|LAB1|DEPOT|D1|20240305101500||ORU^R01^ORU_R01|" ++ letters 20 ++ bytes "|P|2.5.1" ++ (cr ∷ [])
@@ -253,20 +252,14 @@ longestSlip =
     ++ (5 ∷ 0 ∷ 199 ∷ letters 199)
     ++ (6 ∷ 0 ∷ 2 ∷ 0 ∷ 0 ∷ replicate 190 0)
 
--- M's two groups, of which the second has one bad value mended
-abbrev mended : Text
-mended =
-    message
-    (msh ∷ pid ∷ obr ∷ obx ∷ obx ∷ "ZZZ" ∷ "ORC|RE" ∷ "OBR|2|P\\T\\1|F10|54090-6|||2024" ∷ "NTE" ∷ obx ∷ [])
-
 unfoldable pub slips : List Example
 slips =
     (slipOf longest 1 says longestSlip)
     ∷ (yesNo (isSlip longestSlip) says bytes "yes")
     -- group 2 names its own OBR and counts its own OBX
-    ∷ (drop 11 (take 41 (slipOf mended 2))
+    ∷ (drop 11 (take 41 (slipOf twoOrders 2))
     says ((3 ∷ 0 ∷ 3 ∷ bytes "P&1") ++ (4 ∷ 0 ∷ 3 ∷ bytes "F10") ++ (5 ∷ 0 ∷ 7 ∷ bytes "54090-6") ++ (6 ∷ 0 ∷ 2 ∷ 0 ∷ 1 ∷ 0 ∷ 0 ∷ 0 ∷ [])))
-    ∷ (drop 26 (take 31 (slipOf mended 1)) says (6 ∷ 0 ∷ 2 ∷ 0 ∷ 2 ∷ []))
+    ∷ (drop 26 (take 31 (slipOf twoOrders 1)) says (6 ∷ 0 ∷ 2 ∷ 0 ∷ 2 ∷ []))
     -- the order of refusals; a slot number whose product with 1,024 would wrap
     ∷ (outcome (file profile01 [] 0 9 []) says bytes "refused 1")
     ∷ (outcome (file profile01 twoGroups 0 9 []) says bytes "refused 15")
@@ -300,23 +293,4 @@ books =
     ∷ (partLine (readSlip book 1 7) says bytes "refused 19")
     ∷ (partLine (readSlip book 0 7) says bytes "refused 18")
     ∷ (partLine (readSlip book 3 1) says bytes "refused 17")
-    ∷ []
-
-unfoldable pub strikes : List Example
-strikes =
-    -- P5 and P6, and a message that has nothing to strike
-    (strike profile01 (withLine "ZZX|a\\b") says M)
-    ∷ (strike profile01 (withOBX "OBX|1|NM|45222-7^C4-DC^LN||3.16^x|umol/L|||||F")
-    says withOBX "OBX|1|NM|45222-7^C4-DC^LN||3.16^|umol/L|||||F")
-    ∷ (strike profile01 M says M)
-    -- fields, components and subcomponents, separators staying
-    ∷ (strike profile01 (withPID "PID|1&x|a~b^c|A55^9^x&y^NHS&1&ISO&z^MR^w~B^1|q|LANE^J^^^y&z||2024")
-    says withPID "PID|1&||A55^^^NHS&1&ISO&^MR^~B^||LANE^J^^^||2024")
-    -- OBX-5 by its own OBX-2
-    ∷ (strike profile01 (withOBX "OBX|1|SN|1||>^1^-^2^x") says withOBX "OBX|1|SN|1||>^1^-^2^")
-    ∷ (strike profile01 (withOBX "OBX|1|ST|1||>^1^-^2^x") says withOBX "OBX|1|ST|1||>^^^^")
-    ∷ (strike profile01 (withOBX "OBX|1|XX|1||>^1^-^2^x") says withOBX "OBX|1|XX|1||>^^^^")
-    -- the header's first nine bytes stay
-    ∷ (strike profile01 (withMSH "MSH|^~\\&|A^b^c^d|||||sec|ORU^R01^X^y|C7||2.5.1^USA|12")
-    says withMSH "MSH|^~\\&|A^b^c^||||||ORU^R01^X^|C7||2.5.1^|")
     ∷ []

@@ -46,6 +46,12 @@ withOBX s = message (msh ∷ pid ∷ obr ∷ s ∷ [])
 abbrev pub withLine : string.String → Text
 withLine s = message (msh ∷ pid ∷ s ∷ obr ∷ obx ∷ [])
 
+-- M with a second group: two observations in the first, an unlisted segment behind them, and one in the second
+abbrev pub twoOrders : Text
+twoOrders =
+    message
+    (msh ∷ pid ∷ obr ∷ obx ∷ obx ∷ "ZZZ" ∷ "ORC|RE" ∷ "OBR|2|P\\T\\1|F10|54090-6|||2024" ∷ "NTE" ∷ obx ∷ [])
+
 -- what the desk prints
 abbrev pub desk : Text → Text
 desk m = deskLine (judge profile01 m)

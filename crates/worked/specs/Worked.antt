@@ -14,41 +14,53 @@ abbrev pub _says_ : Text → Text → Example
 _says_ a b = record { given = a; said = b }
 
 infix 60 _says_
--- P2 and P8
-abbrev pub badNumber : Text
-badNumber = withOBX "OBX|1|NM|45222-7^C4-DC^LN||3.1x|umol/L|||||F"
+-- those of the twelve that are named elsewhere too: four messages and M's slip
+abbrev pub P1 : Text
+P1 = M
 
-abbrev pub noControl : Text
-noControl = withMSH "MSH|^~\\&|LABSYS|LAB1|DEPOT|D1|20240305101500||ORU^R01^ORU_R01||P|2.5.1"
+abbrev pub P2 : Text
+P2 = withOBX "OBX|1|NM|45222-7^C4-DC^LN||3.1x|umol/L|||||F"
+
+abbrev pub P3 : Text
+P3 =
+    0x01 ∷ 0x00 ∷ 0x02 ∷ 0x43 ∷ 0x37
+    ∷ 0x02 ∷ 0x00 ∷ 0x03 ∷ 0x41 ∷ 0x35 ∷ 0x35
+    ∷ 0x04 ∷ 0x00 ∷ 0x02 ∷ 0x46 ∷ 0x39
+    ∷ 0x05 ∷ 0x00 ∷ 0x07 ∷ 0x35 ∷ 0x34 ∷ 0x30 ∷ 0x38 ∷ 0x39 ∷ 0x2D ∷ 0x38
+    ∷ 0x06 ∷ 0x00 ∷ 0x02 ∷ 0x00 ∷ 0x01 ∷ replicate 993 0
+
+abbrev pub P5 : Text
+P5 = withLine "ZZX|a\\b"
+
+abbrev pub P6 : Text
+P6 = withOBX "OBX|1|NM|45222-7^C4-DC^LN||3.16^x|umol/L|||||F"
+
+abbrev pub P8 : Text
+P8 = withMSH "MSH|^~\\&|LABSYS|LAB1|DEPOT|D1|20240305101500||ORU^R01^ORU_R01||P|2.5.1"
 
 -- THE TWELVE
 unfoldable pub examples : List Example
 examples =
     -- P1, P2
-    (desk M says bytes "accepted")
-    ∷ (desk badNumber says bytes "fault OBX 1 5 1 1 1 102 7")
+    (desk P1 says bytes "accepted")
+    ∷ (desk P2 says bytes "fault OBX 1 5 1 1 1 102 7")
     -- P3
-    ∷ (slipOf M 1
-    says (0x01 ∷ 0x00 ∷ 0x02 ∷ 0x43 ∷ 0x37
-    ∷ 0x02 ∷ 0x00 ∷ 0x03 ∷ 0x41 ∷ 0x35 ∷ 0x35
-    ∷ 0x04 ∷ 0x00 ∷ 0x02 ∷ 0x46 ∷ 0x39
-    ∷ 0x05 ∷ 0x00 ∷ 0x07 ∷ 0x35 ∷ 0x34 ∷ 0x30 ∷ 0x38 ∷ 0x39 ∷ 0x2D ∷ 0x38
-    ∷ 0x06 ∷ 0x00 ∷ 0x02 ∷ 0x00 ∷ 0x01 ∷ replicate 993 0))
+    ∷ (slipOf P1 1 says P3)
     -- P4
-    ∷ (replyTo badNumber
+    ∷ (replyTo P2
     says message
     ("MSH|^~\\&|DEPOT|D1|LABSYS|LAB1|20240305101501||ACK^R01^ACK|K1|P|2.5.1"
     ∷ "MSA|AE|C7"
     ∷ "ERR||OBX^1^5^1^1^1|102^Data type error^HL70357|E"
     ∷ []))
     -- P5, P6
-    ∷ (desk (withLine "ZZX|a\\b") says bytes "accepted")
-    ∷ (desk (withOBX "OBX|1|NM|45222-7^C4-DC^LN||3.16^x|umol/L|||||F") says bytes "accepted")
+    ∷ (desk P5 says bytes "accepted")
+    ∷ (desk P6 says bytes "accepted")
     -- P7
     ∷ (desk (message (msh ∷ obr ∷ obx ∷ [])) says bytes "fault OBR 1 0 0 0 0 100 1")
     -- P8, its line and its reply
-    ∷ (desk noControl says bytes "fault MSH 1 10 1 0 0 101 3")
-    ∷ (replyTo noControl says bytes "refused 13")
+    ∷ (desk P8 says bytes "fault MSH 1 10 1 0 0 101 3")
+    ∷ (replyTo P8 says bytes "refused 13")
     -- P9
     ∷ (desk (take (length M - 1) M) says bytes "refused 5")
     -- P10

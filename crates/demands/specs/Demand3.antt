@@ -1,0 +1,94 @@
+-- DEMAND 3: A NEWER SENDER'S ADDITIONS ALTER NOTHING. Of a message that passes the eight frame checks everything that the table does not list is
+-- struck out (`strike`). The user must be certain that what the definition of demand 2 gives for the struck message is what we
+-- give for the message as it came: the verdict with its place and reason, the look-up answer at each listed place (of a text its bytes), the
+-- reply for every stamp, reply number and buffer with what the buffer then holds, and the filing of every group in every slot and
+-- book with what the book then holds, or the refusal of either.
+use mathlib.Core.Path.{_≡_}
+use Prim.Native.Nat.{ℕ, _-_}
+use mathlib.Core.Bool.{Bool, true, _&&_, _||_}
+use lib.ListN.{take, drop}
+use denote.Ref.{RefT}
+use Rattle.text.specs.Bytes.{Text}
+use Rattle.text.specs.Answer.{Answer, refused, given, tell}
+use Rattle.text.specs.Marks.{marksOf}
+use Rattle.frame.specs.Segments.{occurrence}
+use Rattle.frame.specs.Frame.{framed}
+use Rattle.profile.specs.Table.{Table, isListed}
+use Rattle.profile.specs.Profile.{profile01}
+use Rattle.reader.specs.declared.Place as code
+use Rattle.reader.specs.declared.Found as code-found
+use Rattle.reader.specs.declared.search.LookedUp.{LookedUp}
+use Rattle.reader.specs.Place.{Place}
+use Rattle.reader.specs.LookUp.{Found, Text-from-to, tooFew, lookUp}
+use Rattle.reader.specs.Fault.{checks}
+use Rattle.reader.specs.Told.{placeOf}
+use Rattle.reader.specs.Promise.{LooksUp, Judges}
+use Rattle.reply.specs.Promise.{Replies}
+use Rattle.slip.specs.Promise.{Files}
+use Rattle.demands.specs.Strike.{hasLeaf, leavesAt, strike}
+use Rattle.demands.specs.Fit.{fit, hasCopies}
+
+-- a look-up's answer by its bytes, since striking moves the starts
+pub data Shown : Type 0 where
+  Empty : Shown
+  Bytes : Text → Shown
+
+-- so of the definition, and of what the entry hands back
+abbrev pub shown : Text → Found → Shown
+shown m Found.Empty = Empty
+shown m (Text-from-to a e) = Bytes (take (e - a) (drop a m))
+
+abbrev pub lookUpShown : Text → Place → Answer Shown
+lookUpShown m p = tell (shown m) (lookUp m p)
+
+abbrev pub shownBy : code-found.Found → Text → Answer Shown
+shownBy (code-found.the-variants.Refused r) t = refused r
+shownBy code-found.the-variants.Empty t = given Empty
+shownBy (code-found.the-variants.Text a e) t = given (Bytes t)
+
+abbrev pub handedShown : LookedUp → Answer Shown
+handedShown r = shownBy (r .sort) (r .text .now)
+
+-- A LISTED PLACE: the table names its segment, and lists its leaf for that segment, where there is one
+abbrev pub isListedPlace : Table → Text → Place → Bool
+isListedPlace T m p =
+    isListed T (p .name)
+    && (tooFew m p
+    || hasLeaf (leavesAt T (marksOf m) (occurrence m (p .name) (p .occurrence)) (p .field)) (p .component) (p .subcomponent))
+
+-- THE SAME ANSWERS: what a call gives for the message as it came is what is promised for the struck one, and the two calls give and leave the same
+pub record Same {R : Type 0} (came struck : R → Type 0) : Type 0 where
+  pub as-struck : (r : R) → came r → struck r
+  pub equal : (r s : R) → came r → struck s → r ≡ s
+
+pub record SameAfter {R : Type 0} (came struck : R → Text → Type 0) : Type 0 where
+  pub as-struck : (r : R) (after : Text) → came r after → struck r after
+  pub equal : (r s : R) (after end : Text) → came r after → struck s end → (r ≡ s) × (after ≡ end)
+
+-- so of a look-up, by its bytes
+pub record SameShown (p : code.Place) (came struck : RefT Text) : Type 0 where
+  pub as-struck : (r : LookedUp) → LooksUp came p r → handedShown r ≡ lookUpShown (struck .now) (placeOf p)
+  pub equal : (r s : LookedUp) → LooksUp came p r → LooksUp struck p s → handedShown r ≡ handedShown s
+
+-- NOTHING ALTERED, of the entries' answers by a table and of what they leave
+pub record Unmoved (T : Table) (m : Text) : Type 0 where
+  pub frame : framed (strike T m) ≡ true
+  pub judge : Same (Judges T m) (Judges T (strike T m))
+  pub look-up :
+      (came struck : RefT Text) → came .now ≡ m → struck .now ≡ strike T m
+      → (p : code.Place) → isListedPlace T m (placeOf p) ≡ true → SameShown p came struck
+  pub reply :
+      (stamp number before : Text) → SameAfter (Replies T m stamp number before) (Replies T (strike T m) stamp number before)
+  pub file :
+      (group slot : ℕ) (before : Text) → SameAfter (Files T m group slot before) (Files T (strike T m) group slot before)
+  -- and every single check, broken or not, is the same
+  pub all-checks : checks T (strike T m) ≡ checks T m
+
+-- OVER ANY TABLE whose repetition numbers are from 1, which lists the field that names a type, and which has rows for OBX-2 and the leaves that
+-- replies and slips copy
+abbrev pub AnyTable : Type 0
+AnyTable = (T : Table) → fit T ≡ true → hasCopies T ≡ true → (m : Text) → framed m ≡ true → Unmoved T m
+
+-- DEMAND 3, for 01's table
+abbrev pub Demand3 : Type 0
+Demand3 = (m : Text) → framed m ≡ true → Unmoved profile01 m
