@@ -4,7 +4,7 @@ use mathlib.Core.Logic.{_⊎_, inl, inr}
 use Prim.Native.Nat.{ℕ, zero, suc, _+_, _-_, _<_}
 use native.Mathlib.Nat.{le-of-suc-le-suc, not-suc-le-zero}
 use native.Mathlib.Omega.{arith}
-use mathlib.Core.Bool.{Bool, true, false, not, _&&_, _||_}
+use mathlib.Core.Bool.{Bool, true, false, not, _&&_}
 use mathlib.Core.List.{List, [], _∷_, map}
 use lib.ListN.{length, getD, take, drop}
 use lib.Dec.{eqb}
@@ -26,13 +26,13 @@ use Rattle.reader.proofs.LookUp.{text-stands}
 use Rattle.reply.specs.Reply.{headerLeaf, copiedHD, replyText, reply}
 use Rattle.slip.specs.Slip.{observations, observationsFrom, observationsOf, slipText}
 use Rattle.slip.specs.Book.{file}
-use Rattle.demands.specs.Strike.{hasLeaf, leavesAt, strikeSegment, strike}
+use Rattle.demands.specs.Strike.{isListedPlace, strikeSegment, strike}
 use Rattle.demands.specs.Fit.{listsComponent, hasRow, fit, Copied, copied, copies, hasCopies}
-use Rattle.demands.specs.Demand3.{Shown, shown, lookUpShown, isListedPlace}
+use Rattle.demands.specs.Demand3.{Shown, shown, lookUpShown}
 use Rattle.demands.proofs.Kept.{name-struck}
 use Rattle.demands.proofs.Seen.{has-row}
 use Rattle.demands.proofs.Message.{L, strikes, segments-struck, view-same, frame-struck, marks-struck}
-use Rattle.demands.proofs.Listed.{not-named, found-named, occurrences-same, text-none, text-same}
+use Rattle.demands.proofs.Listed.{not-named, found-named, occurrences-same, text-none, text-same, listed-text}
 
 -- 1. The count of a group's observations
 module _ (T : Table) (q : Marks) (obr : isListed T (bytes "OBR") ≡ true) (obx : isListed T (bytes "OBX") ≡ true) where
@@ -225,12 +225,6 @@ module _ (T : Table) (ok : fit T ≡ true) (cs : hasCopies T ≡ true) (m : Text
   abbrev lastTests : Bool → Bool → List Test
   lastTests a b = test BadPlace a ∷ test NoSegment b ∷ []
 
-  look-by : (a : Bool) (x y : Shown) (b : Bool) → (b ≡ false → x ≡ y) → first (lastTests a b) x ≡ first (lastTests a b) y
-  unfolding first
-  look-by true x y b h = refl
-  look-by false x y true h = refl
-  look-by false x y false h = rw (h refl)
-
   look-rest : (u : Text) (p : Place) → framed u ≡ true
       → lookUpShown u p ≡ first (lastTests (not (isPlace p)) (tooFew u p)) (shown u (found u p))
   unfolding lookUp
@@ -238,17 +232,8 @@ module _ (T : Table) (ok : fit T ≡ true) (cs : hasCopies T ≡ true) (m : Text
       tell-first (shown u) (lookUpTests u p) (found u p)
       ∙ first-passed (frameTests u) (lastTests (not (isPlace p)) (tooFew u p)) (shown u (found u p)) e
 
-  look-listed : (p : Place) → isListed T (p .name) ≡ true
-      → (tooFew m p || hasLeaf (leavesAt T q (occurrence m (p .name) (p .occurrence)) (p .field)) (p .component) (p .subcomponent) ≡ true)
-      → tooFew m p ≡ false → shown m′ (found m′ p) ≡ shown m (found m p)
-  look-listed p l h f =
-      shown-text m′ p ∙ rw (text-same T m marks p l (rw f at h)) (sym (shown-text m p))
-
   pub look-same : (p : Place) → isListedPlace T m p ≡ true → lookUpShown m′ p ≡ lookUpShown m p
   look-same p e =
-      let w = both (isListed T (p .name)) _ e in
-      let few : tooFew m′ p ≡ tooFew m p = rw (occurrences-same T m (p .name) (w .0)) in
-      look-rest m′ p good′
-      ∙ rw few
-      (look-by (not (isPlace p)) (shown m′ (found m′ p)) (shown m (found m p)) (tooFew m p) (look-listed p (w .0) (w .1))
-      ∙ sym (look-rest m p good))
+      let few : tooFew m′ p ≡ tooFew m p = rw (occurrences-same T m (p .name) (both (isListed T (p .name)) _ e .0)) in
+      let shows : shown m′ (found m′ p) ≡ shown m (found m p) = shown-text m′ p ∙ rw (listed-text T m marks p e) (sym (shown-text m p)) in
+      look-rest m′ p good′ ∙ rw (few, shows) (sym (look-rest m p good))

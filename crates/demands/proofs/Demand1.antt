@@ -40,7 +40,7 @@ use Rattle.slip.specs.Told.{filedOf, valueOf, startOf, endOf}
 use Rattle.slip.specs.Promise.{Files, ReadsSlip}
 use Rattle.slip.proofs.Unique.{file-unique, read-slip-unique}
 use Rattle.slip.proofs.ReadBack.{filed-untouched, filed-size}
-use Rattle.demands.specs.Demand1.{numbers, InOrder, Answers, Writes, sameLookUp, sameValue, frame, Demand1}
+use Rattle.demands.specs.Demand1.{numbers, InOrder, Answers, Writes, sameLookUp, sameValue, frameNumbers, Demand1}
 use Rattle.demands.proofs.Judged.{judged}
 
 -- 1. An answer by ordered refusals is in their order
@@ -62,7 +62,7 @@ module _ {R A : Type 0} (told : R → Answer A) (by : Answer A → R) (back : (a
   module _ (before : Text) (stays : (n : Refusal) → left (refused n) ≡ before) (promised : R → Text → Type 0)
       (means : (r : R) (after : Text) → promised r after → Does r after)
       (meets : (r : R) (after : Text) → Does r after → promised r after)
-      (only-one : (r s : R) (after end : Text) → promised r after → promised s end → (r ≡ s) × (after ≡ end)) where
+      (only-one : (r s : R) (after after' : Text) → promised r after → promised s after' → (r ≡ s) × (after ≡ after')) where
     -- a refusal is told where it is the answer, and then nothing is written
     untouched : (r : R) (after : Text) (n : Refusal) → promised r after → told r ≡ refused n → after ≡ before
     untouched r after n p e =
@@ -107,7 +107,7 @@ resolve-writes t before =
 
 reply-writes : (m stamp number before : Text)
     → Writes (Replies profile01 m stamp number before) before writtenOf
-    (frame ++ (11 ∷ 12 ∷ 13 ∷ 14 ∷ [])) (replyTests profile01 m stamp number (length before))
+    (frameNumbers ++ (11 ∷ 12 ∷ 13 ∷ 14 ∷ [])) (replyTests profile01 m stamp number (length before))
 unfolding reply frameTests
 reply-writes m stamp number before =
     writes writtenOf written-by written-back length (λ a. bufferAfter a before) (reply profile01 m stamp number (length before))
@@ -118,7 +118,7 @@ reply-writes m stamp number before =
 
 file-writes : (m : Text) (group slot : ℕ) (before : Text)
     → Writes (Files profile01 m group slot before) before filedOf
-    (frame ++ (15 ∷ 16 ∷ 17 ∷ [])) (fileTests profile01 m group slot before)
+    (frameNumbers ++ (15 ∷ 16 ∷ 17 ∷ [])) (fileTests profile01 m group slot before)
 unfolding file frameTests
 file-writes m group slot before =
     writes filedOf filed-by filed-back (λ t. tt) (λ a. bookAfter a slot before) (file profile01 m group slot before)
@@ -153,7 +153,7 @@ value-back (refused r) = refl
 value-back (given p) = refl
 
 look-up-answers : (m : RefT Text) (p : Place)
-    → Answers (LooksUp m p) sameLookUp (λ r. foundOf (r .sort)) (frame ++ (9 ∷ 10 ∷ [])) (lookUpTests (m .now) (placeOf p))
+    → Answers (LooksUp m p) sameLookUp (λ r. foundOf (r .sort)) (frameNumbers ++ (9 ∷ 10 ∷ [])) (lookUpTests (m .now) (placeOf p))
 unfolding lookUp frameTests
 look-up-answers m p =
     let f = found-by (lookUp (m .now) (placeOf p)) in
@@ -182,7 +182,7 @@ read-slip-answers book k tag =
           (orNothing (valueFrom expected tag (slotSize * k) (slot (book .now) k))) (valueOf (r .sort)) (h .sort);
     }
 
-judge-answers : (m : Text) → Answers (Judges profile01 m) _≡_ verdictOf frame (frameTests m)
+judge-answers : (m : Text) → Answers (Judges profile01 m) _≡_ verdictOf frameNumbers (frameTests m)
 unfolding judge frameTests
 judge-answers m =
     record {

@@ -1,9 +1,10 @@
 -- DEMAND 2: what the entries' promises say of the answers, of the bytes written and of the slips read back.
 use mathlib.Core.Path.{_≡_, refl, sym, ap, _∙_}
-use Prim.Native.Nat.{ℕ, _+_, _≤_}
+use Prim.Native.Nat.{ℕ, _+_, _*_, _≤_}
 use native.Mathlib.Omega.{arith}
-use mathlib.Core.Bool.{true, false}
+use mathlib.Core.Bool.{true, false, not}
 use mathlib.Core.List.{List, [], _∷_, _++_}
+use mathlib.Core.Option.{Option, none, some}
 use lib.ListN.{length, take, drop}
 use lib.Dec.{ltb}
 use lib.Seq.{take-at, drop-at}
@@ -29,7 +30,6 @@ use Rattle.reader.specs.declared.search.LookedUp.{LookedUp}
 use Rattle.reader.specs.Place.{Place, textAt, startAt}
 use Rattle.reader.specs.LookUp.{Empty, Text-from-to, shown, found, lookUpTests, lookUp}
 use Rattle.reader.specs.Told.{placeOf, foundOf}
-use Rattle.reader.specs.Part.{startOf}
 use Rattle.reader.specs.Fault.{checks, noneBroken, verdict, judge}
 use Rattle.reader.specs.Promise.{LooksUp, Judges}
 use Rattle.reader.proofs.LookUp.{shown-step}
@@ -39,8 +39,15 @@ use Rattle.reader.proofs.Unique.{verdict-same}
 use Rattle.reply.specs.Reply.{noControl, replyText, replyTests, reply}
 use Rattle.reply.specs.Promise.{Replies}
 use Rattle.reply.proofs.Bound.{reply-bound}
+use Rattle.slip.specs.declared.Value as code-value
+use Rattle.slip.specs.declared.reading.SlipValue.{SlipValue}
+use Rattle.slip.specs.Slip.{slotSize}
+use Rattle.slip.specs.Book.{noSlot}
+use Rattle.slip.specs.Read.{Part, expected, isSlip, valueFrom, isNone, orNothing, slot, readTests, readSlip}
+use Rattle.slip.specs.Told.{valueOf}
+use Rattle.slip.specs.Promise.{ReadsSlip}
 use Rattle.slip.proofs.ReadBack.{filed-there, filed-read, filed-others}
-use Rattle.demands.specs.Demand2.{Wrote, Stands, Demand2}
+use Rattle.demands.specs.Demand2.{Wrote, Stands, Holds, Demand2}
 use Rattle.demands.proofs.Idle.{shut-out}
 
 -- 1. The verdict
@@ -55,12 +62,12 @@ otherwise m (Fault f) h g b = (f, refl)
 
 -- 2. Looking up
 -- where a text is found, it starts there, and some byte stands there; where Empty is, none
-found-some : (m : Text) (p : Place) (a e : ℕ) → given (Text-from-to a e) ≡ lookUp m p → (a ≡ startAt m p) × (empty (textAt m p) ≡ false)
+found-some : (m : Text) (p : Place) (a e : ℕ) → given (Text-from-to a e) ≡ lookUp m p → (a ≡ startAt m p) × ((e ≡ startAt m p + length (textAt m p)) × (empty (textAt m p) ≡ false))
 unfolding lookUp
 found-some m p a e h =
     let t = textAt m p in
     let w = shown-step (startAt m p) a e t (first-asked (lookUpTests m p) (found m p) (Text-from-to a e) h) in
-    (w .0, empty-some t (λ z. omega (arith, w .1 .1, z)))
+    (w .0, (w .1 .0, empty-some t (λ z. omega (arith, w .1 .1, z))))
 
 empty-step : (k : ℕ) (t : Text) → Empty ≡ shown k t → t ≡ []
 empty-step k [] h = refl
@@ -74,15 +81,16 @@ module _ (m : RefT Text) (p : code.Place) (r : LookedUp) (l : LooksUp m p r) whe
   sort-told : (f : code-found.Found) → r .sort ≡ f → foundOf f ≡ lookUp (m .now) (placeOf p)
   sort-told f s = ap foundOf (sym s) ∙ l .sort
 
-  text : (a e : ℕ) → r .sort ≡ code-found.the-variants.Text a e → Stands m (placeOf p) (r .text)
+  text : (a e : ℕ) → r .sort ≡ code-found.the-variants.Text a e → Stands m (placeOf p) a e (r .text)
   text a e s =
       let t = looked-up-text m p r a e l s in
       let f = found-some (m .now) (placeOf p) a e (sort-told (code-found.the-variants.Text a e) s) in
       record {
+        start = f .0;
+        end = f .1 .0;
         bytes = t;
-        some = rw t (f .1);
-        block = l .text .block;
-        offset = l .text .offset ∙ ap (λ (k : ℕ). m .ptr .1 + k) (ap startOf s ∙ f .0);
+        not-empty = rw t (f .1 .1);
+        very-part = rw s at (l .text);
       }
 
   nothing : r .sort ≡ code-found.the-variants.Empty → textAt (m .now) (placeOf p) ≡ []
@@ -142,6 +150,26 @@ replies m stamp number before after n h =
     let b = bounded m stamp number (length before) (passed ts t n (h .answer)) in
     (wrote ts t n (h .answer) before after (b .0) (h .buffer), omega (arith, size ts t n (h .answer), b .1))
 
+-- 4. A value that is read
+some-step : (o : Option Part) → isNone o ≡ false → o ≡ some (orNothing o)
+some-step none e = not-true (sym e)
+some-step (some p) e = refl
+
+value-read : (book : RefT Text) (k tag : ℕ) (r : SlipValue) (a e : ℕ) → ReadsSlip book k tag r → r .sort ≡ code-value.the-variants.Part a e
+    → Holds book k tag a e (r .value)
+unfolding readSlip passes
+value-read book k tag r a e h s =
+    let o = valueFrom expected tag (slotSize * k) (slot (book .now) k) in
+    let told = ap valueOf (sym s) ∙ h .sort in
+    let room = passes-rest (noSlot (book .now) k) _ (given-passes (readTests (book .now) k tag) (orNothing o) _ (sym told)) in
+    let slip = passes-rest (not (isSlip (slot (book .now) k))) _ (room .1) in
+    let tagged = passes-rest (isNone o) true (slip .1) in
+    record {
+      slip = not-false (isSlip (slot (book .now) k)) (slip .0);
+      lies = some-step o (tagged .0) ∙ ap some (sym (first-asked (readTests (book .now) k tag) (orNothing o) _ told));
+      very-part = rw s at (h .value);
+    }
+
 -- DEMAND 2
 pub demand2 : Demand2
 demand2 =
@@ -155,6 +183,7 @@ demand2 =
       resolves = resolves;
       replies = replies;
       files = filed-there;
+      value = value-read;
       reads-back = λ m g k before book h. filed-read m g k before (book .now) h book refl;
       others = λ m g k old book h. filed-others m g k (old .now) (book .now) h book refl old refl;
       not-idle = shut-out;

@@ -27,10 +27,11 @@ use Rattle.slip.specs.Book.{bookAfter}
 use Rattle.slip.specs.Told.{done}
 use Rattle.slip.specs.Promise.{Files}
 use Rattle.slip.proofs.Unique.{file-unique}
-use Rattle.demands.specs.Strike.{strike}
+use Rattle.demands.specs.Strike.{isListedPlace, strike}
 use Rattle.demands.specs.Fit.{fit, hasCopies}
-use Rattle.demands.specs.Demand3.{shown, lookUpShown, shownBy, handedShown, isListedPlace, SameShown, Unmoved, AnyTable, Demand3}
+use Rattle.demands.specs.Demand3.{shown, lookUpShown, shownBy, handedShown, SameShown, Unmoved, Demand3}
 use Rattle.demands.proofs.Answers.{good′, checks-same, judge-same, look-same, reply-same, file-same}
+use Rattle.demands.proofs.Striking.{not-empty}
 
 -- what a look-up hands back has the bytes that its answer names
 shown-step : (f : code-found.Found) (t m : Text) → t ≡ within (startOf f) (endOf f) m → shownBy f t ≡ tell (shown m) (foundOf f)
@@ -70,34 +71,43 @@ module _ (T : Table) (ok : fit T ≡ true) (cs : hasCopies T ≡ true) (m : Text
   unmoved =
       record {
         frame = good′ T ok cs m good;
+        defined =
+            record {
+              all-checks = checks-same T ok cs m good;
+              judges = judge-same T ok cs m good;
+              looks-up = look-same T ok cs m good;
+              replies = reply-same T ok cs m good;
+              files = file-same T ok cs m good;
+            };
         judge = record { as-struck = judges; equal = λ r s h k. judge-unique T m′ r s (judges r h) k };
         look-up = looks;
         reply =
             λ stamp number before. record {
               as-struck = replies stamp number before;
-              equal = λ r s after end h k. reply-unique T m′ stamp number before r s after end (replies stamp number before r after h) k;
+              equal = λ r s after after' h k. reply-unique T m′ stamp number before r s after after' (replies stamp number before r after h) k;
             };
         file =
             λ g k before. record {
               as-struck = files g k before;
-              equal = λ r s after end h l. file-unique T m′ g k before r s after end (files g k before r after h) l;
+              equal = λ r s after after' h l. file-unique T m′ g k before r s after after' (files g k before r after h) l;
             };
-        all-checks = checks-same T ok cs m good;
       }
 
--- OVER ANY TABLE
-pub any-table : AnyTable
-any-table T ok cs m good = unmoved T ok cs m good
-
 -- 01's table is one of those
-pub profile-fit : fit profile01 ≡ true
+profile-fit : fit profile01 ≡ true
 unfolding fit every some same profile01 rows
 profile-fit = refl
 
-pub profile-copies : hasCopies profile01 ≡ true
+profile-copies : hasCopies profile01 ≡ true
 unfolding hasCopies every some same profile01 rows
 profile-copies = refl
 
 -- DEMAND 3
 pub demand3 : Demand3
-demand3 m good = any-table profile01 profile-fit profile-copies m good
+demand3 =
+    record {
+      any-table = unmoved;
+      fits = (profile-fit, profile-copies);
+      ours = unmoved profile01 profile-fit profile-copies;
+      not-empty = not-empty;
+    }

@@ -25,7 +25,7 @@ piece-none : (n : ℕ) → piece n [] ≡ []
 piece-none zero = refl
 piece-none (suc i) = refl
 
-split-none : (sep n : ℕ) → piece n (split sep []) ≡ []
+pub split-none : (sep n : ℕ) → piece n (split sep []) ≡ []
 unfolding split
 split-none sep zero = refl
 split-none sep (suc zero) = refl

@@ -1,6 +1,6 @@
 -- THE FIVE IDLE BUILDS are shut out: each is at odds with what the entries promise.
 use mathlib.Core.Path.{_≡_, refl, sym, ap, _∙_}
-use Prim.Native.Nat.{ℕ}
+use Prim.Native.Nat.{ℕ, _≤_}
 use native.Mathlib.Omega.{arith}
 use mathlib.Core.Bool.{false}
 use denote.Ref.{RefT}
@@ -22,7 +22,7 @@ use Rattle.slip.specs.RoundTrip.{valueOfTag, handedBack}
 use Rattle.slip.specs.Inner.{ownFiling, FilesOwn}
 use Rattle.slip.specs.Promise.{Files, ReadsSlip}
 use Rattle.slip.proofs.Answers.{files-own}
-use Rattle.slip.proofs.RoundTrip.{round-trip, filler-back}
+use Rattle.slip.proofs.RoundTrip.{filed-fitting, round-trip, filler-back}
 use Rattle.slip.proofs.ReadBack.{slip-given, filed-there, filed-read}
 use Rattle.slip.proofs.Unique.{file-unique}
 use Rattle.worked.specs.Messages.{twoOrders}
@@ -83,9 +83,11 @@ module _ (m : Text) (g k : ℕ) (before : Text) (book : RefT Text) (f : Files pr
   number-back : (r : SlipValue) → ReadsSlip book k 4 r → handedBack r ≡ given (resolvedAt m (bytes "OBR") g 3)
   number-back r h = filed-read m g k before (book .now) f book refl 4 r h ∙ number-value
 
-  count-back : (r : SlipValue) → ReadsSlip book k 6 r → handedBack r ≡ given (twoBytes (observationsOf m g))
+  count-back : (r : SlipValue) → ReadsSlip book k 6 r → (handedBack r ≡ given (twoBytes (observationsOf m g))) × (observationsOf m g ≤ 509)
   unfolding valueOfTag
-  count-back r h = filed-read m g k before (book .now) f book refl 6 r h
+  count-back r h =
+      let s = slip-given m g k before (book .now) f in
+      (filed-read m g k before (book .now) f book refl 6 r h, filed-fitting m g k before (s .0) (s .1) .count)
 
 -- SHUT OUT
 pub shut-out : ShutOut

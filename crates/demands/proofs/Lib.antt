@@ -10,7 +10,7 @@ pub mod Seen
 pub mod Message
 pub mod Listed
 pub mod Answers
-pub mod Demand3
 pub mod Gone
 pub mod Separators
-pub mod Struck
+pub mod Striking
+pub mod Demand3

@@ -5,16 +5,16 @@ use Prim.Native.Nat.{ℕ, zero, suc, _-_}
 use mathlib.Core.Bool.{Bool, true, false}
 use mathlib.Core.List.{List, [], _∷_, map}
 use lib.ListN.{length, getD, length-map}
-use Rattle.text.specs.Bytes.{Text, pick, keep}
+use Rattle.text.specs.Bytes.{Text, pick, keep, empty}
 use Rattle.text.specs.declared.marks.Marks.{Marks}
 use Rattle.text.specs.Marks.{marksOf}
-use Rattle.text.proofs.Tests.{not-true, same-true}
-use Rattle.text.proofs.Lists.{All}
+use Rattle.text.proofs.Tests.{not-true, same-true, both}
+use Rattle.text.proofs.Lists.{All, or-either}
 use Rattle.parts.specs.Split.{piece}
 use Rattle.frame.specs.Segments.{segments, name, named, ofName, occurrence}
 use Rattle.profile.specs.Table.{Table, isListed}
 use Rattle.reader.specs.Place.{Place, textAt}
-use Rattle.demands.specs.Strike.{hasLeaf, leavesAt, strikeSegment, strike}
+use Rattle.demands.specs.Strike.{isListedPlace, hasLeaf, leavesAt, strikeSegment, strike}
 use Rattle.demands.proofs.Shrink.{sub-empty}
 use Rattle.demands.proofs.Kept.{name-struck, leaf-struck, segment-sub}
 use Rattle.demands.proofs.Message.{L, strikes, segments-struck}
@@ -91,3 +91,14 @@ module _ (T : Table) (m : Text) where
     text-same h =
         rw (marks, occurrence-struck (p .name) (p .occurrence) l)
         (leaf-struck T (marksOf m) (occurrence m (p .name) (p .occurrence)) (p .field) (p .repetition) (p .component) (p .subcomponent) h)
+
+  empty-none : (t : Text) → empty t ≡ true → t ≡ []
+  empty-none [] e = refl
+  empty-none (b ∷ t) e = not-true e
+
+  -- AT A LISTED PLACE the text is as it was
+  pub listed-text : marksOf (strike T m) ≡ marksOf m → (p : Place) → isListedPlace T m p ≡ true → textAt (strike T m) p ≡ textAt m p
+  listed-text marks p e =
+      let s = occurrence m (p .name) (p .occurrence) in
+      let w = both (isListed T (p .name)) _ e in
+      or-either (empty s) _ (λ n. text-none marks p (w .0) (empty-none s n)) (text-same marks p (w .0)) (w .1)

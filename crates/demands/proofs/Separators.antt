@@ -1,4 +1,4 @@
--- The separators around what is struck stay, at each depth.
+-- What is left of a segment: the separators around what is struck stay, at each depth, and what is not listed has no bytes.
 use mathlib.Core.Path.{_≡_, refl, ap}
 use Prim.Native.Nat.{ℕ, zero, suc}
 use native.Mathlib.Omega.{arith}
@@ -11,10 +11,11 @@ use Rattle.text.specs.declared.marks.Marks.{Marks}
 use Rattle.parts.specs.Split.{front, split, piece}
 use Rattle.frame.specs.Segments.{name, isHeader, field, unsplit}
 use Rattle.profile.specs.Table.{Table}
-use Rattle.demands.specs.Strike.{rewritten, hasComponent, strikeSubcomponent, strikeComponent, hasField, leavesAt, strikeField, strikeAfterNinth, strikeHeader, strikeOther, strikeSegment}
-use Rattle.demands.specs.Struck.{pieces, SeparatorsStay}
+use Rattle.demands.specs.Strike.{rewritten, onlyIf, hasComponent, strikeSubcomponent, strikeComponent, hasField, leavesAt, strikeField, strikeAfterNinth, strikeHeader, strikeOther, strikeSegment}
+use Rattle.demands.specs.Striking.{pieces, Leaves}
 use Rattle.demands.proofs.Shrink.{piece-rewritten, count-rewritten}
 use Rattle.demands.proofs.Kept.{subcomponent-shrinks, component-shrinks, unless, component-field, strikeIn, in-shrinks, field-shrinks, field-struck, after-shrinks}
+use Rattle.demands.proofs.Gone.{split-none}
 
 -- 1. Between the fields
 front-count : (k : Bool) (b : ℕ) (ps rs : List Text) → length ps ≡ length rs → length (front k b ps) ≡ length (front k b rs)
@@ -76,9 +77,22 @@ module _ (T : Table) (q : Marks) (s : Text) (f : ℕ) (has : hasField T (name s)
         )
         (count-rewritten (q .subcomponent) (strikeSubcomponent ls c) (subcomponent-shrinks q ls c) (piece c (split (q .component) p)))
 
--- THE SEPARATORS STAY
-pub separators-stay : (T : Table) (q : Marks) (s : Text) → SeparatorsStay T q s (strikeSegment T q s)
-separators-stay T q s =
+-- 3. What is not listed has no bytes left
+module _ (T : Table) (q : Marks) (s : Text) (f : ℕ) where
+  component-gone : (k : Bool) (t : Text) (r c : ℕ) → hasComponent (leavesAt T q s f) c ≡ false
+      → piece c (split (q .component) (piece r (split (q .repetition) (onlyIf k (rewritten (q .repetition) (strikeIn T q s f) t))))) ≡ []
+  component-gone true t r c h =
+      let ls = leavesAt T q s f in
+      rw (
+        piece-rewritten (q .repetition) (strikeIn T q s f) (in-shrinks T q s f) t r,
+        piece-rewritten (q .component) (strikeComponent q ls) (component-shrinks q ls) (piece r (split (q .repetition) t)) c,
+        h,
+      )
+  component-gone false t r c h = rw (split-none (q .repetition) r) (split-none (q .component) c)
+
+-- WHAT IS LEFT of a segment
+pub leaves : (T : Table) (q : Marks) (s : Text) → Leaves T q s (strikeSegment T q s)
+leaves T q s =
     record {
       fields = segment-count T q s;
       repetitions = λ f h. rw (field-struck T q s f) (repetitions-by T q s f h (unsplit s f) (field q s f));
@@ -86,4 +100,7 @@ separators-stay T q s =
       subcomponents =
           λ f r c h. rw (field-struck T q s f)
           (subcomponents-by T q s f (component-field T q s f c h) c h (unsplit s f) (field q s f) r);
+      no-field = λ f u h. rw (field-struck T q s f, u, h);
+      no-component =
+          λ f r c u h. rw (field-struck T q s f, u) (component-gone T q s f (hasField T (name s) f) (field q s f) r c h);
     }

@@ -3,8 +3,8 @@
 -- and that a filed slip changes its own slot and nothing else.
 --
 -- An entry is proved for any input, with nothing asked of its caller: it ends, and what it answers and leaves is what it promises
--- (src/lib.rt has the six entries with their promises). Here stands what the promises come to, entry by entry: there is one answer
--- and only one, its refusals come in 01's order, and a refusal leaves what was lent.
+-- (src/lib.rt and proofs/Contracts.antt have the six entries with these promises). Here stands what the promises come to, entry by
+-- entry: there is one answer and only one, its refusals come in 01's order, and a refusal leaves what was lent.
 use mathlib.Core.Path.{_≡_}
 use mathlib.Core.Logic.{_⊎_}
 use Prim.Native.Nat.{ℕ, _+_, _*_, _≤_, _<_}
@@ -41,7 +41,7 @@ use Rattle.slip.specs.Promise.{Files, ReadsSlip}
 abbrev pub numbers : List Test → List ℕ
 numbers ts = map (λ (t : Test). numberOf (t .refusal)) ts
 
--- AN ANSWER IN ORDER: a refusal is the first that applies, and what was asked for is given where none applies
+-- AN ANSWER IN ORDER: a refusal is the first that applies, and what was asked for is given only where none applies
 pub record InOrder {A : Type 0} (order : List ℕ) (ts : List Test) (a : Answer A) : Type 0 where
   pub numbered : numbers ts ≡ order
   pub refusal : (r : Refusal) → a ≡ refused r → FirstRefusal ts r
@@ -58,7 +58,7 @@ pub record Answers {R A : Type 0} (promised : R → Type 0) (alike : R → R →
 -- holds `after`
 pub record Writes {R A : Type 0} (promised : R → Text → Type 0) (before : Text) (told : R → Answer A) (order : List ℕ) (ts : List Test) : Type 0 where
   pub there-is-one : (r : R) × ((after : Text) × promised r after)
-  pub only-one : (r s : R) (after end : Text) → promised r after → promised s end → (r ≡ s) × (after ≡ end)
+  pub only-one : (r s : R) (after after' : Text) → promised r after → promised s after' → (r ≡ s) × (after ≡ after')
   pub in-order : (r : R) (after : Text) → promised r after → InOrder order ts (told r)
   pub untouched : (r : R) (after : Text) (n : Refusal) → promised r after → told r ≡ refused n → after ≡ before
 
@@ -74,28 +74,28 @@ pub record OnlySlot (k : ℕ) (before after : Text) : Type 0 where
   pub size : length after ≡ length before
   pub elsewhere : (i : ℕ) → (i < slotSize * k) ⊎ (slotSize * k + slotSize ≤ i) → getD after i 0 ≡ getD before i 0
 
--- 1 to 8, the frame
-abbrev pub frame : List ℕ
-frame = 1 ∷ 2 ∷ 3 ∷ 4 ∷ 5 ∷ 6 ∷ 7 ∷ 8 ∷ []
+-- those of the frame checks
+abbrev pub frameNumbers : List ℕ
+frameNumbers = 1 ∷ 2 ∷ 3 ∷ 4 ∷ 5 ∷ 6 ∷ 7 ∷ 8 ∷ []
 
 -- DEMAND 1
 pub record Demand1 : Type 0 where
   -- JUDGING a message: 1 to 8
-  pub judge : (m : Text) → Answers (Judges profile01 m) _≡_ verdictOf frame (frameTests m)
+  pub judge : (m : Text) → Answers (Judges profile01 m) _≡_ verdictOf frameNumbers (frameTests m)
   -- LOOKING UP a place: 1 to 8, 9, 10
   pub look-up :
       (m : RefT Text) (p : Place)
-      → Answers (LooksUp m p) sameLookUp (λ r. foundOf (r .sort)) (frame ++ (9 ∷ 10 ∷ [])) (lookUpTests (m .now) (placeOf p))
+      → Answers (LooksUp m p) sameLookUp (λ r. foundOf (r .sort)) (frameNumbers ++ (9 ∷ 10 ∷ [])) (lookUpTests (m .now) (placeOf p))
   -- REPLYING, for a stamp and a reply number, into a buffer that held `before`: 1 to 8, 11 to 14
   pub reply :
       (m stamp number before : Text)
       → Writes (Replies profile01 m stamp number before) before writtenOf
-      (frame ++ (11 ∷ 12 ∷ 13 ∷ 14 ∷ [])) (replyTests profile01 m stamp number (length before))
+      (frameNumbers ++ (11 ∷ 12 ∷ 13 ∷ 14 ∷ [])) (replyTests profile01 m stamp number (length before))
   -- FILING a group in a slot of a book that held `before`: 1 to 8, 15 to 17
   pub file :
       (m : Text) (group slot : ℕ) (before : Text)
       → Writes (Files profile01 m group slot before) before filedOf
-      (frame ++ (15 ∷ 16 ∷ 17 ∷ [])) (fileTests profile01 m group slot before)
+      (frameNumbers ++ (15 ∷ 16 ∷ 17 ∷ [])) (fileTests profile01 m group slot before)
   -- READING a tag of a slot: 17 to 19
   pub read-slip :
       (book : RefT Text) (slot tag : ℕ)

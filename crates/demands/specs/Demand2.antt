@@ -5,9 +5,10 @@
 -- The checks of a message, in the order of 01's walk, are `checks` (reader); the bytes of a reply are `replyText` (reply), those of a slip
 -- `slipText` (slip). Here stands what the entries' promises say of them.
 use mathlib.Core.Path.{_≡_}
-use Prim.Native.Nat.{ℕ, _+_, _≤_}
+use Prim.Native.Nat.{ℕ, _+_, _*_, _≤_}
 use mathlib.Core.Bool.{true, false}
 use mathlib.Core.List.{[]}
+use mathlib.Core.Option.{some}
 use lib.ListN.{length, take, drop}
 use denote.Ref.{RefT}
 use Rattle.text.specs.Bytes.{Text, empty}
@@ -26,13 +27,15 @@ use Rattle.reader.specs.declared.search.LookedUp.{LookedUp}
 use Rattle.reader.specs.Place.{Place, textAt, startAt}
 use Rattle.reader.specs.Fault.{checks, noneBroken, FirstBroken}
 use Rattle.reader.specs.Told.{placeOf}
+use Rattle.reader.specs.Part.{VeryPart}
 use Rattle.reader.specs.Promise.{LooksUp, Judges}
 use Rattle.reply.specs.Reply.{replyText}
 use Rattle.reply.specs.Promise.{Replies}
 use Rattle.slip.specs.declared.Filed.the-variants.{Slip}
+use Rattle.slip.specs.declared.Value.the-variants as value
 use Rattle.slip.specs.declared.reading.SlipValue.{SlipValue}
-use Rattle.slip.specs.Slip.{slipValues, slipText}
-use Rattle.slip.specs.Read.{slot}
+use Rattle.slip.specs.Slip.{slipValues, slotSize, slipText}
+use Rattle.slip.specs.Read.{expected, isSlip, valueFrom, slot}
 use Rattle.slip.specs.Told.{valueOf}
 use Rattle.slip.specs.RoundTrip.{valueOfTag, handedBack}
 use Rattle.slip.specs.Promise.{Files, ReadsSlip}
@@ -45,12 +48,21 @@ pub record Wrote (t before after : Text) (n : ℕ) : Type 0 where
   pub written : take n after ≡ t
   pub rest : drop n after ≡ drop n before
 
--- A TEXT AT A PLACE of the lent message: a part of it that has the bytes that stand there, at least one, and lies where they lie
-pub record Stands (m : RefT Text) (p : Place) (part : RefT Text) : Type 0 where
+-- A TEXT AT A PLACE of the lent message: it starts and ends where the text there does, has its bytes, at least one, and is that very
+-- part of the message's memory
+pub record Stands (m : RefT Text) (p : Place) (a e : ℕ) (part : RefT Text) : Type 0 where
+  pub start : a ≡ startAt (m .now) p
+  pub end : e ≡ startAt (m .now) p + length (textAt (m .now) p)
   pub bytes : part .now ≡ textAt (m .now) p
-  pub some : empty (part .now) ≡ false
-  pub block : part .ptr .0 ≡ m .ptr .0
-  pub offset : part .ptr .1 ≡ m .ptr .1 + startAt (m .now) p
+  pub not-empty : empty (part .now) ≡ false
+  pub very-part : VeryPart part m a e
+
+-- A VALUE OF A TAG of the lent book: a slip stands in the slot, the tag's value starts and ends there, and it is that very part of the
+-- book's memory
+pub record Holds (book : RefT Text) (k tag a e : ℕ) (part : RefT Text) : Type 0 where
+  pub slip : isSlip (slot (book .now) k) ≡ true
+  pub lies : valueFrom expected tag (slotSize * k) (slot (book .now) k) ≡ some (record { start = a; end = e })
+  pub very-part : VeryPart part book a e
 
 -- DEMAND 2
 pub record Demand2 : Type 0 where
@@ -69,7 +81,7 @@ pub record Demand2 : Type 0 where
   -- A TEXT that is looked up is what stands at that place of the caller's message; where Empty is answered, nothing stands there
   pub text :
       (m : RefT Text) (p : code-place.Place) (r : LookedUp) (a e : ℕ) → LooksUp m p r → r .sort ≡ found.Text a e
-      → Stands m (placeOf p) (r .text)
+      → Stands m (placeOf p) a e (r .text)
   pub nothing :
       (m : RefT Text) (p : code-place.Place) (r : LookedUp) → LooksUp m p r → r .sort ≡ found.Empty → textAt (m .now) (placeOf p) ≡ []
   -- THE BYTES of a resolved text and of a reply, which has at most 1,200 of them
@@ -80,6 +92,10 @@ pub record Demand2 : Type 0 where
   -- THE BYTES of a slip
   pub files :
       (m : Text) (g k : ℕ) (before after : Text) → Files profile01 m g k before Slip after → slot after k ≡ slipText m g
+  -- A VALUE that is read, of whatever book
+  pub value :
+      (book : RefT Text) (k tag : ℕ) (r : SlipValue) (a e : ℕ) → ReadsSlip book k tag r → r .sort ≡ value.Part a e
+      → Holds book k tag a e (r .value)
   -- READ BACK from the book that a filing has left: each tag of its slot gives the value filed, and every other slot what it gave before
   pub reads-back :
       (m : Text) (g k : ℕ) (before : Text) (book : RefT Text) → Files profile01 m g k before Slip (book .now)

@@ -5,35 +5,36 @@
 -- book with what the book then holds, or the refusal of either.
 use mathlib.Core.Path.{_≡_}
 use Prim.Native.Nat.{ℕ, _-_}
-use mathlib.Core.Bool.{Bool, true, _&&_, _||_}
+use mathlib.Core.Bool.{true}
 use lib.ListN.{take, drop}
 use denote.Ref.{RefT}
 use Rattle.text.specs.Bytes.{Text}
 use Rattle.text.specs.Answer.{Answer, refused, given, tell}
-use Rattle.text.specs.Marks.{marksOf}
-use Rattle.frame.specs.Segments.{occurrence}
 use Rattle.frame.specs.Frame.{framed}
-use Rattle.profile.specs.Table.{Table, isListed}
+use Rattle.profile.specs.Table.{Table}
 use Rattle.profile.specs.Profile.{profile01}
 use Rattle.reader.specs.declared.Place as code
 use Rattle.reader.specs.declared.Found as code-found
 use Rattle.reader.specs.declared.search.LookedUp.{LookedUp}
 use Rattle.reader.specs.Place.{Place}
-use Rattle.reader.specs.LookUp.{Found, Text-from-to, tooFew, lookUp}
-use Rattle.reader.specs.Fault.{checks}
+use Rattle.reader.specs.LookUp.{Found, Text-from-to, lookUp}
+use Rattle.reader.specs.Fault.{checks, judge}
 use Rattle.reader.specs.Told.{placeOf}
 use Rattle.reader.specs.Promise.{LooksUp, Judges}
+use Rattle.reply.specs.Reply.{reply}
 use Rattle.reply.specs.Promise.{Replies}
+use Rattle.slip.specs.Book.{file}
 use Rattle.slip.specs.Promise.{Files}
-use Rattle.demands.specs.Strike.{hasLeaf, leavesAt, strike}
+use Rattle.demands.specs.Strike.{isListedPlace, strike}
 use Rattle.demands.specs.Fit.{fit, hasCopies}
+use Rattle.demands.specs.Striking.{NotEmpty}
 
 -- a look-up's answer by its bytes, since striking moves the starts
 pub data Shown : Type 0 where
   Empty : Shown
   Bytes : Text → Shown
 
--- so of the definition, and of what the entry hands back
+-- shown so: what the definition finds, and what the entry hands back
 abbrev pub shown : Text → Found → Shown
 shown m Found.Empty = Empty
 shown m (Text-from-to a e) = Bytes (take (e - a) (drop a m))
@@ -49,13 +50,6 @@ shownBy (code-found.the-variants.Text a e) t = given (Bytes t)
 abbrev pub handedShown : LookedUp → Answer Shown
 handedShown r = shownBy (r .sort) (r .text .now)
 
--- A LISTED PLACE: the table names its segment, and lists its leaf for that segment, where there is one
-abbrev pub isListedPlace : Table → Text → Place → Bool
-isListedPlace T m p =
-    isListed T (p .name)
-    && (tooFew m p
-    || hasLeaf (leavesAt T (marksOf m) (occurrence m (p .name) (p .occurrence)) (p .field)) (p .component) (p .subcomponent))
-
 -- THE SAME ANSWERS: what a call gives for the message as it came is what is promised for the struck one, and the two calls give and leave the same
 pub record Same {R : Type 0} (came struck : R → Type 0) : Type 0 where
   pub as-struck : (r : R) → came r → struck r
@@ -63,16 +57,25 @@ pub record Same {R : Type 0} (came struck : R → Type 0) : Type 0 where
 
 pub record SameAfter {R : Type 0} (came struck : R → Text → Type 0) : Type 0 where
   pub as-struck : (r : R) (after : Text) → came r after → struck r after
-  pub equal : (r s : R) (after end : Text) → came r after → struck s end → (r ≡ s) × (after ≡ end)
+  pub equal : (r s : R) (after after' : Text) → came r after → struck s after' → (r ≡ s) × (after ≡ after')
 
--- so of a look-up, by its bytes
+-- the same for a look-up, whose answers are compared by their bytes
 pub record SameShown (p : code.Place) (came struck : RefT Text) : Type 0 where
   pub as-struck : (r : LookedUp) → LooksUp came p r → handedShown r ≡ lookUpShown (struck .now) (placeOf p)
   pub equal : (r s : LookedUp) → LooksUp came p r → LooksUp struck p s → handedShown r ≡ handedShown s
 
--- NOTHING ALTERED, of the entries' answers by a table and of what they leave
+-- NOTHING ALTERED BY THE DEFINITIONS: every check, broken or not, the verdict, the look-up at each listed place, every reply, every filing
+pub record SameDefined (T : Table) (m : Text) : Type 0 where
+  pub all-checks : checks T (strike T m) ≡ checks T m
+  pub judges : judge T (strike T m) ≡ judge T m
+  pub looks-up : (p : Place) → isListedPlace T m p ≡ true → lookUpShown (strike T m) p ≡ lookUpShown m p
+  pub replies : (stamp number : Text) (room : ℕ) → reply T (strike T m) stamp number room ≡ reply T m stamp number room
+  pub files : (group slot : ℕ) (book : Text) → file T (strike T m) group slot book ≡ file T m group slot book
+
+-- NOTHING ALTERED: so also what the entries return, by the table, and what they leave
 pub record Unmoved (T : Table) (m : Text) : Type 0 where
   pub frame : framed (strike T m) ≡ true
+  pub defined : SameDefined T m
   pub judge : Same (Judges T m) (Judges T (strike T m))
   pub look-up :
       (came struck : RefT Text) → came .now ≡ m → struck .now ≡ strike T m
@@ -81,14 +84,14 @@ pub record Unmoved (T : Table) (m : Text) : Type 0 where
       (stamp number before : Text) → SameAfter (Replies T m stamp number before) (Replies T (strike T m) stamp number before)
   pub file :
       (group slot : ℕ) (before : Text) → SameAfter (Files T m group slot before) (Files T (strike T m) group slot before)
-  -- and every single check, broken or not, is the same
-  pub all-checks : checks T (strike T m) ≡ checks T m
 
--- OVER ANY TABLE whose repetition numbers are from 1, which lists the field that names a type, and which has rows for OBX-2 and the leaves that
--- replies and slips copy
-abbrev pub AnyTable : Type 0
-AnyTable = (T : Table) → fit T ≡ true → hasCopies T ≡ true → (m : Text) → framed m ≡ true → Unmoved T m
-
--- DEMAND 3, for 01's table
-abbrev pub Demand3 : Type 0
-Demand3 = (m : Text) → framed m ≡ true → Unmoved profile01 m
+-- DEMAND 3
+pub record Demand3 : Type 0 where
+  -- OVER ANY TABLE whose repetition numbers are from 1, which lists the field that names a type, and which has rows for OBX-2 and the
+  -- leaves that replies and slips copy
+  pub any-table : (T : Table) → fit T ≡ true → hasCopies T ≡ true → (m : Text) → framed m ≡ true → Unmoved T m
+  -- 01'S TABLE is one of them
+  pub fits : (fit profile01 ≡ true) × (hasCopies profile01 ≡ true)
+  pub ours : (m : Text) → framed m ≡ true → Unmoved profile01 m
+  -- AND STRIKING DOES SOMETHING
+  pub not-empty : NotEmpty

@@ -1,6 +1,6 @@
 -- THE FIVE IDLE BUILDS that 01 names, each at odds with one statement about what the entries promise.
 use mathlib.Core.Path.{_≡_}
-use Prim.Native.Nat.{ℕ, zero, suc, _+_}
+use Prim.Native.Nat.{ℕ, zero, suc, _+_, _≤_}
 use mathlib.Core.Bool.{false}
 use mathlib.Core.List.{_∷_, _++_}
 use lib.ListN.{length, replicate}
@@ -34,7 +34,7 @@ abbrev pub together : Text → ℕ → ℕ
 together m zero = 0
 together m (suc n) = observationsOf m (suc n) + together m n
 
--- the slip of group 2 of that message, which has an OBR of its own and one OBX
+-- the slip of group 2 of `twoOrders`: that group has its own OBR and one OBX
 abbrev pub secondSlip : Text
 secondSlip =
     (1 ∷ 0 ∷ 2 ∷ bytes "C7") ++ (2 ∷ 0 ∷ 3 ∷ bytes "A55") ++ (3 ∷ 0 ∷ 3 ∷ bytes "P&1") ++ (4 ∷ 0 ∷ 3 ∷ bytes "F10")
@@ -56,8 +56,9 @@ pub record ShutOut : Type 0 where
   pub group-two :
       (k : ℕ) (before after : Text) (r : Filed) → noSlot before k ≡ false → Files profile01 twoOrders 2 k before r after
       → (r ≡ Slip) × (slot after k ≡ secondSlip)
-  -- INVENTS THE OBX COUNT: tag 6 is the count of the group's own OBX; and the counts of all groups together are the message's OBX
+  -- INVENTS THE OBX COUNT: tag 6 is the count of the group's own OBX, at most 509; and the counts of all groups together are the
+  -- message's OBX
   pub invents-a-count :
       (m : Text) (g k : ℕ) (before : Text) (book : RefT Text) → Files profile01 m g k before Slip (book .now)
-      → (r : SlipValue) → ReadsSlip book k 6 r → handedBack r ≡ given (twoBytes (observationsOf m g))
+      → (r : SlipValue) → ReadsSlip book k 6 r → (handedBack r ≡ given (twoBytes (observationsOf m g))) × (observationsOf m g ≤ 509)
   pub counts-all : (m : Text) → Judges profile01 m Accepted → together m (groups m) ≡ observationsIn m

@@ -3,5 +3,5 @@ pub mod Idle
 pub mod Demand2
 pub mod Strike
 pub mod Fit
+pub mod Striking
 pub mod Demand3
-pub mod Struck

@@ -1,7 +1,7 @@
 -- Demand 3 takes a message and strikes out, beyond its first nine bytes, each segment that the table doesn't name, its CR too, and
 -- the content of each unlisted field, component and subcomponent; the separators around them stay.
 use Prim.Native.Nat.{ℕ, suc}
-use mathlib.Core.Bool.{Bool, true, false, not, _&&_}
+use mathlib.Core.Bool.{Bool, true, false, not, _&&_, _||_}
 use mathlib.Core.List.{List, [], _∷_, _++_, map, flatMap}
 use lib.ListN.{take, drop}
 use lib.Dec.{eqb}
@@ -9,8 +9,9 @@ use Rattle.text.specs.Bytes.{Text, pick, cr, empty, some, keep, same}
 use Rattle.text.specs.declared.marks.Marks.{Marks}
 use Rattle.text.specs.Marks.{marksOf}
 use Rattle.parts.specs.Split.{split, join, closed}
-use Rattle.frame.specs.Segments.{name, isHeader}
-use Rattle.profile.specs.Table.{Table, Leaf, Row, leavesIn}
+use Rattle.frame.specs.Segments.{name, isHeader, occurrence}
+use Rattle.profile.specs.Table.{Table, Leaf, Row, isListed, leavesIn}
+use Rattle.reader.specs.Place.{Place}
 use Rattle.reader.specs.View.{namedIn, listedSegments}
 
 -- each piece changed by f, which is told the piece's number, from 1
@@ -74,6 +75,12 @@ strikeOther T q s = take 4 s ++ rewritten (q .field) (strikeField T q s) (drop 4
 unfoldable pub strikeSegment : Table → Marks → Text → Text
 strikeSegment T q s = pick (isHeader s) (strikeHeader T q s) (strikeOther T q s)
 
--- THE STRUCK MESSAGE
+-- THE STRUCK MESSAGE. (A table that does not name MSH would strike the header too; demand 3 is of tables that do)
 unfoldable pub strike : Table → Text → Text
 strike T m = closed cr (map (strikeSegment T (marksOf m)) (listedSegments T m))
+
+-- A LISTED PLACE: the table names its segment, and lists its leaf for that segment, where there is one
+abbrev pub isListedPlace : Table → Text → Place → Bool
+isListedPlace T m p =
+    let s = occurrence m (p .name) (p .occurrence) in
+    isListed T (p .name) && (empty s || hasLeaf (leavesAt T (marksOf m) s (p .field)) (p .component) (p .subcomponent))

@@ -16,7 +16,7 @@ pub use rows::rows_under;
 pub use rows::type_rows;
 use table::PROFILE;
 
-// The table, to be lent to whatever reads one: an entry takes it once.
+// The table, to be lent to whatever reads one: an entry takes it once. Inner: what its promise leaves open, no reader of a table looks at.
 pub fn profile() -> [u16; 1228]
     ensures rows { λ r. ⌜ Tells r profile01 ⌝ }
     ensures rule { λ r. ⌜ Sound r ⌝ }
