@@ -50,7 +50,7 @@ module _ (T : Table) (q : Marks) (obr : isListed T (bytes "OBR") ≡ true) (obx 
   count-step x ls ss false e h =
       rw (not-named T q (bytes "OBR") obr x (R x) refl e, not-named T q (bytes "OBX") obx x (X x) refl e) h
 
-  pub observations-struck : (ss : List Text) → observations (strikes T q ss) ≡ observations ss
+  observations-struck : (ss : List Text) → observations (strikes T q ss) ≡ observations ss
   unfolding keep
   observations-struck [] = refl
   observations-struck (x ∷ ss) = count-step x (keep (L T q) ss) ss (L T q x) refl (observations-struck ss)
@@ -68,7 +68,7 @@ module _ (T : Table) (q : Marks) (obr : isListed T (bytes "OBR") ≡ true) (obx 
   from-step x ls ss false e o h (suc i) =
       h (suc i) ∙ sym (ap (λ (b : Bool). observationsFrom ss (pick b i (suc i))) (not-named T q (bytes "OBR") obr x (R x) refl e))
 
-  pub from-struck : (ss : List Text) (i : ℕ) → observationsFrom (strikes T q ss) i ≡ observationsFrom ss i
+  from-struck : (ss : List Text) (i : ℕ) → observationsFrom (strikes T q ss) i ≡ observationsFrom ss i
   unfolding keep
   from-struck [] i = refl
   from-struck (x ∷ ss) i = from-step x (keep (L T q) ss) ss (L T q x) refl (observations-struck ss) (from-struck ss) i
@@ -88,7 +88,7 @@ unfolding hasCopies
 copy-rows T cs = every-all (λ (c : Copied). hasRow T (c .segment) (c .field) (c .component)) copies cs
 
 -- so the header is listed
-pub header-listed : (T : Table) → hasCopies T ≡ true → isListed T (bytes "MSH") ≡ true
+header-listed : (T : Table) → hasCopies T ≡ true → isListed T (bytes "MSH") ≡ true
 header-listed T cs = row-lists T (bytes "MSH") 3 1 (copy-rows T cs .0)
 
 -- a member of a list by its number

@@ -74,7 +74,7 @@ together-groups m zero = refl
 together-groups m (suc n) = rw (together-groups m n)
 
 -- of every message
-pub together-all : (m : Text) → observations (segments m) + together m (groups m) ≡ observationsIn m
+together-all : (m : Text) → observations (segments m) + together m (groups m) ≡ observationsIn m
 together-all m = rw (together-groups m (groups m)) (counted-once (segments m))
 
 -- a segment whose name passes a test has no name that doesn't

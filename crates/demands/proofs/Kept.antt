@@ -28,7 +28,7 @@ module _ (q : Marks) (ls : List Leaf) where
   component-shrinks c t =
       sub-only (hasComponent ls c) (rewritten-sub (q .subcomponent) (strikeSubcomponent ls c) (subcomponent-shrinks c) t)
 
-  pub repetition-sub : (t : Text) → Sub (strikeRepetition q ls t) t
+  repetition-sub : (t : Text) → Sub (strikeRepetition q ls t) t
   repetition-sub t = rewritten-sub (q .component) (strikeComponent q ls) component-shrinks t
 
   has-component : (c b : ℕ) → hasLeaf ls c b ≡ true → hasComponent ls c ≡ true
@@ -59,7 +59,7 @@ unless true g t = t
 unless false g t = g t
 
 module _ (T : Table) (q : Marks) (s : Text) where
-  pub has-field : (f c b : ℕ) → hasLeaf (leavesAt T q s f) c b ≡ true → hasField T (name s) f ≡ true
+  has-field : (f c b : ℕ) → hasLeaf (leavesAt T q s f) c b ≡ true → hasField T (name s) f ≡ true
   unfolding leavesAt
   has-field f c b h =
       some-row _ _ (rowsAt T (name s) f) h

@@ -1,7 +1,7 @@
 -- The listed segments of a struck message, and the text at a listed place.
 use mathlib.Core.Path.{_≡_, refl, sym, ap, _∙_}
 use mathlib.Core.Logic.{_⊎_, inl, inr}
-use Prim.Native.Nat.{ℕ, zero, suc, _-_}
+use Prim.Native.Nat.{ℕ, zero, suc}
 use mathlib.Core.Bool.{Bool, true, false}
 use mathlib.Core.List.{List, [], _∷_, map}
 use lib.ListN.{length, getD, length-map}
@@ -22,7 +22,7 @@ use Rattle.demands.proofs.Message.{L, strikes, segments-struck}
 -- 1. The segments of a listed name
 module _ (T : Table) (q : Marks) (n : Text) (listed : isListed T n ≡ true) where
   -- a segment of that name is listed, and one that is not listed is not of that name
-  pub named-listed : (x : Text) → named n x ≡ true → L T q x ≡ true
+  named-listed : (x : Text) → named n x ≡ true → L T q x ≡ true
   named-listed x e = rw (same-true (name x) n e) listed
 
   pub not-named : (x : Text) (b : Bool) → named n x ≡ b → L T q x ≡ false → b ≡ false
@@ -38,7 +38,7 @@ module _ (T : Table) (q : Marks) (n : Text) (listed : isListed T n ≡ true) whe
   name-step x ls ss false true e f h = not-true (sym e ∙ named-listed x f)
   name-step x ls ss false false e f h = h
 
-  pub ofName-struck : (ss : List Text) → ofName n (strikes T q ss) ≡ map (strikeSegment T q) (ofName n ss)
+  ofName-struck : (ss : List Text) → ofName n (strikes T q ss) ≡ map (strikeSegment T q) (ofName n ss)
   unfolding keep
   ofName-struck [] = refl
   ofName-struck (x ∷ ss) = name-step x (keep (L T q) ss) ss (L T q x) (named n x) refl refl (ofName-struck ss)
@@ -62,9 +62,14 @@ found-named n l a (suc i) = go l a i
     go (x ∷ l) a zero = inr (a .0)
     go (x ∷ l) a (suc i) = go l (a .1) i
 
+-- a text that is tested empty has no bytes
+no-bytes : (t : Text) → empty t ≡ true → t ≡ []
+no-bytes [] e = refl
+no-bytes (b ∷ t) e = not-true e
+
 -- 2. Its occurrences, and the text at a listed place
 module _ (T : Table) (m : Text) where
-  pub none-struck : strikeSegment T (marksOf m) [] ≡ []
+  none-struck : strikeSegment T (marksOf m) [] ≡ []
   none-struck = sub-empty (segment-sub T (marksOf m) [])
 
   named-struck : (n : Text) → isListed T n ≡ true
@@ -92,13 +97,9 @@ module _ (T : Table) (m : Text) where
         rw (marks, occurrence-struck (p .name) (p .occurrence) l)
         (leaf-struck T (marksOf m) (occurrence m (p .name) (p .occurrence)) (p .field) (p .repetition) (p .component) (p .subcomponent) h)
 
-  empty-none : (t : Text) → empty t ≡ true → t ≡ []
-  empty-none [] e = refl
-  empty-none (b ∷ t) e = not-true e
-
   -- AT A LISTED PLACE the text is as it was
   pub listed-text : marksOf (strike T m) ≡ marksOf m → (p : Place) → isListedPlace T m p ≡ true → textAt (strike T m) p ≡ textAt m p
   listed-text marks p e =
       let s = occurrence m (p .name) (p .occurrence) in
       let w = both (isListed T (p .name)) _ e in
-      or-either (empty s) _ (λ n. text-none marks p (w .0) (empty-none s n)) (text-same marks p (w .0)) (w .1)
+      or-either (empty s) _ (λ n. text-none marks p (w .0) (no-bytes s n)) (text-same marks p (w .0)) (w .1)

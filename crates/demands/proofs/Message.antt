@@ -204,7 +204,7 @@ module _ (T : Table) (msh : isListed T (bytes "MSH") ≡ true) (m x : Text) (xs 
   struck-nine = rw struck-text (unfold closed in refl)
 
   -- the separators stay
-  pub struck-marks : marksOf (strike T m) ≡ marksOf m
+  struck-marks : marksOf (strike T m) ≡ marksOf m
   unfolding marksOf
   struck-marks = refl
 

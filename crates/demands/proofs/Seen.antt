@@ -38,7 +38,7 @@ module _ {A : Type 0} where
   unfolding some
   told-here x l h e = or-left (h x) (some h l) e
 
-  pub all-told : (l : List A) → All (Told l) l
+  all-told : (l : List A) → All (Told l) l
   all-told [] = tt
   all-told (x ∷ l) = (told-here x l, all-map (Told l) (Told (x ∷ l)) (λ y. told-more x l y) l (all-told l))
 
@@ -140,7 +140,7 @@ module _ (T : Table) (q : Marks) (s : Text) where
         (row-field r e (h .0 .1), w .0),
       )
 
-  pub rules-ok : fit T ≡ true → All (RuleOk Lists Says) (rulesOf T (name s))
+  rules-ok : fit T ≡ true → All (RuleOk Lists Says) (rulesOf T (name s))
   unfolding fit rulesOf
   rules-ok ok =
       let named : Row → Bool = λ r. same (r .segment) (name s) in
@@ -246,7 +246,7 @@ module _ (T : Table) (q : Marks) (s : Text) where
       all-flatMap (λ (l : Leaf). hasLeaf (leavesAt T q s f) (l .component) (l .subcomponent) ≡ true) (leavesIn T (before T q s)) xs
       (all-map (Lists T q s f) (λ x. All (λ (l : Leaf). hasLeaf (leavesAt T q s f) (l .component) (l .subcomponent) ≡ true) (leavesIn T (before T q s) x)) (λ x h. h .1) xs a)
 
-  pub field-same : (u : Rule) → RuleOk (Lists T q s) (Says T q s) u → fieldSeen T q (strikeSegment T q s) u ≡ fieldSeen T q s u
+  field-same : (u : Rule) → RuleOk (Lists T q s) (Says T q s) u → fieldSeen T q (strikeSegment T q s) u ≡ fieldSeen T q s u
   unfolding fieldSeen repetitions
   field-same u h =
       rw (field-struck T q s (u .field), unsplit-struck T q s (u .field), lists-same (u .field) (u .lists) (h .0))

@@ -11,7 +11,6 @@ use lib.Seq.{drop-drop}
 use lib.Dec.{eqb, ltb}
 use borrow.Author.Tests.{eq-eqb, ne-eqb, eqb-true, le-leb, lt-leb, ltb-true, ltb-false, not-true, not-false}
 use Rattle.text.specs.Bytes.{Text, pick, within}
-use Rattle.text.specs.Types.{_to_}
 use Rattle.text.specs.Answer.{Answer, refused, given, test, first}
 use Rattle.text.specs.declared.refusal.Refusal.the-variants.{NoSlot, BadSlip, NoTag}
 use Rattle.text.proofs.Tests.{both}

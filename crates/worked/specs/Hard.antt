@@ -17,7 +17,7 @@ use Rattle.reply.specs.Reply.{reply}
 use Rattle.slip.specs.Book.{file, bookAfter}
 use Rattle.slip.specs.Read.{isSlip, readSlip}
 use Rattle.worked.specs.Messages.{message, msh, pid, obr, obx, M, withMSH, withPID, withOBX, twoOrders, desk, outcome, replyTo, slipOf, partLine}
-use Rattle.worked.specs.Worked.{Example, _says_}
+use Rattle.worked.specs.Worked.{Example, _says_, P3}
 
 abbrev yesNo : Bool → Text
 yesNo true = bytes "yes"
@@ -273,18 +273,13 @@ slips =
     ∷ []
 
 -- a book of three slots and a bit: M's slip in its second
-abbrev slipM : Text
-slipM =
-    (1 ∷ 0 ∷ 2 ∷ bytes "C7") ++ (2 ∷ 0 ∷ 3 ∷ bytes "A55") ++ (4 ∷ 0 ∷ 2 ∷ bytes "F9") ++ (5 ∷ 0 ∷ 7 ∷ bytes "54089-8")
-    ++ (6 ∷ 0 ∷ 2 ∷ 0 ∷ 1 ∷ replicate 993 0)
-
 abbrev book : Text
-book = replicate 1024 255 ++ slipM ++ replicate 1052 255
+book = replicate 1024 255 ++ P3 ++ replicate 1052 255
 
 unfoldable pub books : List Example
 books =
     -- a filed slip changes its own slot
-    (bookAfter (given slipM) 1 (replicate 3100 255) says book)
+    (bookAfter (given P3) 1 (replicate 3100 255) says book)
     -- reading back
     ∷ (partLine (readSlip book 1 1) says bytes "1027 1029")
     ∷ (partLine (readSlip book 1 2) says bytes "1032 1035")
