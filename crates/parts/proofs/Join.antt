@@ -23,7 +23,8 @@ Some [] = ⊥
 Some (p ∷ ps) = Unit
 
 module _ (sep : ℕ) where
-  split-one : (p : Text) → Free sep p → split sep p ≡ p ∷ []
+  -- a text without the separator is its only piece
+  pub split-one : (p : Text) → Free sep p → split sep p ≡ p ∷ []
   unfolding split
   split-one [] f = refl
   split-one (b ∷ p) f = rw (f .0, split-one p (f .1))

@@ -83,20 +83,18 @@ module _ (q : Marks) (t : List ℕ) (s : Text) (k at end : ℕ) (is : IsField t 
   pub named-from : 10 ≤ getD t (at + 6) 0 → pick (eqb k 1) 3 1 ≤ getD t (at + 6) 0 - 10
   named-from l = number-step (eqb k 1) (getD t (at + 6) 0) (field-namer t k at end is l)
 
-  -- that field's first leaf
-  module _ (l : 10 ≤ getD t (at + 6) 0) (numbered : HasNumber s k) where
-    abbrev namer : ℕ
-    namer = getD t (at + 6) 0 - 10
+  pub lists-named : (l : 10 ≤ getD t (at + 6) 0) (r : Rows) → Lists t r (leavesNamed t (namedIn q s (getD t (at + 6) 0 - 10))) → Lists t r (leavesOfField q t s at end)
+  lists-named l r h = subst (λ (ls : List Leaf). Lists t r ls) (sym (leaves-named t k at end is l (namedIn q s))) h
 
-    named-text : (x : Text) → x ≡ field q s namer → part false (inField q 1 1 1) x ≡ namedIn q s namer
-    unfolding leafAt
-    named-text x e = rw (field-split s k numbered namer (named-from l), ← e)
+-- the type that a field names is its first leaf
+module _ (q : Marks) (t : List ℕ) (s : Text) (k : ℕ) (numbered : HasNumber s k) (namer : ℕ) (low : pick (eqb k 1) 3 1 ≤ namer) where
+  named-text : (x : Text) → x ≡ field q s namer → part false (inField q 1 1 1) x ≡ namedIn q s namer
+  unfolding leafAt
+  named-text x e = rw (field-split s k numbered namer low, ← e)
 
-    pub lists-named : (r : Rows) (x : Text) → x ≡ field q s namer → (e : ℕ) → within 0 e x ≡ part false (inField q 1 1 1) x → Lists t r (leavesNamed t (within 0 e x))
-        → Lists t r (leavesOfField q t s at end)
-    lists-named r x f e g h =
-        subst (λ (ls : List Leaf). Lists t r ls)
-        (ap (leavesNamed t) (g ∙ named-text x f) ∙ sym (leaves-named t k at end is l (namedIn q s))) h
+  pub lists-type : (r : Rows) (x : Text) → x ≡ field q s namer → (e : ℕ) → within 0 e x ≡ part false (inField q 1 1 1) x → Lists t r (leavesNamed t (within 0 e x))
+      → Lists t r (leavesNamed t (namedIn q s namer))
+  lists-type r x f e g h = subst (λ (ls : List Leaf). Lists t r ls) (ap (leavesNamed t) (g ∙ named-text x f)) h
 
 -- rows list what they list
 pub lists-itself : (t : List ℕ) (r : Rows) (ls : List Leaf) → Lists t r ls → Lists t r (leavesAt t r)

@@ -60,7 +60,7 @@ module _ (q : Marks) (s : Text) (c : Cursor) (h : IsPiece (q .component) s c) (l
   unfolding part
   leaf-missing k b l = rw (piece-missing k l) (part-nil (step (q .subcomponent) b ∷ []) ∙ sym (no-leaf q k b))
 
-  entries-missing : (k : ℕ) (ls : List Leaf) → Ascends k ls → c .number < k → entriesOf q false ls s ≡ entriesOf q false ls []
+  pub entries-missing : (k : ℕ) (ls : List Leaf) → Ascends k ls → c .number < k → entriesOf q false ls s ≡ entriesOf q false ls []
   entries-missing k [] a l = refl
   entries-missing k (x ∷ ls) (next i _ _ r) l =
       rw (leaf-missing (x .component) (x .subcomponent) (omega arith), entries-missing (x .component) ls r (omega arith))
@@ -172,7 +172,7 @@ pub record Reading (s : Text) (q : Marks) (t : List ℕ) (first end : ℕ) (foun
   pub ascends : Ascends (cursor .number) (leaves t at end)
   pub left : Left q s (leaves t first end) (leaves t at end) found
 
-rises : (k : ℕ) (l : Leaf) (ls : List Leaf) → Ascends k (l ∷ ls) → (k ≤ l .component) × ((1 ≤ l .reason) × (l .reason ≤ 12)) × Ascends (l .component) ls
+pub rises : (k : ℕ) (l : Leaf) (ls : List Leaf) → Ascends k (l ∷ ls) → (k ≤ l .component) × ((1 ≤ l .reason) × (l .reason ≤ 12)) × Ascends (l .component) ls
 rises k l ls (next a b c r) = (a, (b, c), r)
 
 module _ {s : Text} {q : Marks} {t : List ℕ} where

@@ -5,6 +5,7 @@ pub mod Breaks
 pub mod LeafRule
 pub mod LeafByLeaf
 pub mod Repeats
+pub mod FlatField
 pub mod FieldText
 pub mod FieldLeaves
 pub mod FieldChecks

@@ -19,7 +19,7 @@ use Rattle.frame.proofs.Frame.{framed-tests}
 use Rattle.reader.specs.Place.{Place, leafAt, textAt}
 
 -- every byte of a text passes a test; of each of some texts
-abbrev Each : (ℕ → Bool) → Text → Type 0
+abbrev pub Each : (ℕ → Bool) → Text → Type 0
 Each p t = every p t ≡ true
 
 abbrev Eaches : (ℕ → Bool) → List Text → Type 0
@@ -33,7 +33,7 @@ each-more : (p : ℕ → Bool) (b : ℕ) (t : Text) → p b ≡ true → Each p 
 unfolding every
 each-more p b t e h = and-both (p b) (every p t) e h
 
-each-take : (p : ℕ → Bool) (k : ℕ) (t : Text) → Each p t → Each p (take k t)
+pub each-take : (p : ℕ → Bool) (k : ℕ) (t : Text) → Each p t → Each p (take k t)
 unfolding every
 each-take p zero t e = refl
 each-take p (suc k) [] e = refl

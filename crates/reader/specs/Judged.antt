@@ -1,11 +1,11 @@
 -- What only inner functions promise of judging: the first broken check of a repetition, a field, a segment, told from where a reader stands.
 use Prim.Native.Nat.{ℕ, suc, _+_, _-_, _≤_, _<_}
 use mathlib.Core.Path.{_≡_}
-use mathlib.Core.Bool.{true, false}
+use mathlib.Core.Bool.{Bool, true, false, not, _||_}
 use mathlib.Core.List.{List, [], _∷_, map, flatMap}
 use lib.ListN.{length, getD, take, drop}
 use lib.Dec.{eqb, ltb}
-use Rattle.text.specs.Bytes.{Text, pick, cr, empty, within}
+use Rattle.text.specs.Bytes.{Text, pick, cr, empty, every, within}
 use Rattle.text.specs.declared.marks.Marks.{Marks}
 use Rattle.text.specs.Marks.{marksOf}
 use Rattle.parts.specs.Split.{split, reach}
@@ -45,6 +45,19 @@ pub record ReadsField (q : Marks) (ls : List Leaf) (most : ℕ) (x : Text) (r : 
   pub filled : r .filled ≡ startsFilled (filledIn q ls x)
   pub first : r .surplus ≡ false → (n : Text) (o f : ℕ) → told (place n o f (r .repetition) (r .component) (r .subcomponent)) (r .reason)
       ≡ firstBroken (flatMap (repetitionChecks q n o f) (filledIn q ls x))
+
+-- no separator takes the field apart but into components, and no escape is in it; this is told of such a field where it breaks nothing
+abbrev pub isPlain : Marks → ℕ → Bool
+isPlain q b = not (eqb b (q .repetition) || (eqb b (q .subcomponent) || eqb b (q .escape)))
+
+abbrev pub isFlat : Marks → Text → Bool
+isFlat q x = every (isPlain q) x
+
+abbrev pub passed : ReadField
+passed = record { surplus = false; filled = true; reason = 0; repetition = 1; component = 0; subcomponent = 0 }
+
+abbrev pub passedOnce : ReadRepetition
+passedOnce = record { filled = true; reason = 0; component = 0; subcomponent = 0 }
 
 -- A SEGMENT: the first broken check of its listed fields
 abbrev pub toldAt : Text → ℕ → Finding → Verdict

@@ -1,6 +1,7 @@
 // Places, look-up and judging.
 mod conditions;
 mod field;
+mod flat;
 mod judging;
 mod leaves;
 mod listing;

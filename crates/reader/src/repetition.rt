@@ -27,7 +27,7 @@ pub struct ReadRepetition {
 }
 
 // What is found of leaves that are all missing: the first that is required. `filled` is told of those before them.
-fn missing_leaves(filled: bool, t: &[u16], rows: Rows) -> ReadRepetition
+pub fn missing_leaves(filled: bool, t: &[u16], rows: Rows) -> ReadRepetition
     requires { ⌜ (rows .start ≤ rows .end) × (rows .end ≤ length (now t)) ⌝ }
     ensures { λ r. ⌜ (r .filled ≡ filled) × ((q : Marks) (n : Text) (o f k : ℕ) → told (place n o f k (r .component) (r .subcomponent)) (r .reason) ≡ firstBroken (repetitionChecks q n o f (record { number = k; entries = entriesOf q false (leavesAt (now (t .entry)) rows) [] }))) ⌝ }
 {
@@ -85,7 +85,7 @@ pub fn read_repetition(s: &[u8], q: Marks, t: &[u16], rows: Rows) -> ReadRepetit
         let b = p.end;
         found.filled = found.filled | (a < b);
         if found.reason == 0 {
-            found.reason = leaf_reason(&part[a..b], q, t, at);
+            found.reason = leaf_reason(&part[a..b], q, false, t, at);
             found.component = number;
             found.subcomponent = sub;
         }

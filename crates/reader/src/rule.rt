@@ -1,7 +1,9 @@
 // A leaf's own rule. Inner: the callers hold that a row stands there.
 ghost use mathlib.Core.Path.{_≡_};
+ghost use mathlib.Core.Bool.{true, false};
 ghost use Prim.Native.Nat.{_+_, _≤_};
 ghost use lib.ListN.{length, drop, getD};
+ghost use Rattle.text.specs.Escape.{badEscape};
 ghost use Rattle.profile.specs.Numbers.{leafOf};
 ghost use Rattle.reader.specs.Place.{Place};
 ghost use Rattle.reader.specs.Fault.{leafChecks, firstBroken};
@@ -11,10 +13,12 @@ use profile::is_of_type;
 use text::Marks;
 use text::bad_escape;
 
-// The reason of the first check that a leaf's text breaks, 0 where it breaks none. The row of the leaf begins at `at`.
-pub fn leaf_reason(s: &[u8], q: Marks, t: &[u16], at: usize) -> u8
+// The reason of the first check that a leaf's text breaks, 0 where it breaks none. The row of the leaf begins at `at`. A caller who has
+// seen that there is no escape says so: `plain`.
+pub fn leaf_reason(s: &[u8], q: Marks, plain: bool, t: &[u16], at: usize) -> u8
     requires { ⌜ at + 11 ≤ length (now t) ⌝ }
     requires { ⌜ (1 ≤ getD (now t) (at + 10) 0) × (getD (now t) (at + 10) 0 ≤ 12) ⌝ }
+    requires { ⌜ (plain ≡ true → badEscape q (now s) ≡ false) ⌝ }
     ensures { λ r. ⌜ ((p : Place) → told p r ≡ firstBroken (leafChecks q p (leafOf (drop at (now (t .entry)))) (now (s .entry)))) ⌝ }
 {
     if s.len() == 0 {
@@ -26,8 +30,10 @@ pub fn leaf_reason(s: &[u8], q: Marks, t: &[u16], at: usize) -> u8
     if (t[at + 8] as usize) < s.len() {
         return 5;
     }
-    if bad_escape(q, s) {
-        return 6;
+    if !plain {
+        if bad_escape(q, s) {
+            return 6;
+        }
     }
     if !is_of_type(t[at + 6], s) {
         return 7;

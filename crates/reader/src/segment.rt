@@ -7,14 +7,16 @@ ghost use Rattle.text.specs.Bytes.{pick, within};
 ghost use lib.Dec.{eqb};
 ghost use Rattle.parts.specs.Descent.{part, inField};
 ghost use Rattle.frame.specs.Segments.{field};
-ghost use Rattle.profile.specs.Inner.{Lists, IsField, ruleAt};
+ghost use Rattle.profile.specs.Inner.{Lists, IsField, leavesNamed, ruleAt};
 ghost use Rattle.profile.specs.Table.{C};
 ghost use Rattle.profile.specs.Numbers.{tableOf, usageOf};
 ghost use Rattle.profile.specs.Order.{Sound};
 ghost use Rattle.reader.specs.Fault.{firstFilled, isRequired};
-ghost use Rattle.reader.specs.View.{fieldSeen};
+ghost use Rattle.reader.specs.View.{fieldSeen, namedIn};
 ghost use Rattle.reader.specs.Judged.{ReadsSegment, HasNumber, fieldsSeen, leavesOfField, ReadsFieldAt, atRepetition};
 use crate::field::read_field;
+use crate::flat::flat_passes;
+use crate::flat::is_flat;
 use parts::advance;
 use parts::first_piece;
 use parts::piece_end;
@@ -87,6 +89,17 @@ fn first_leaf(x: &[u8], q: Marks) -> usize
     piece_end(&x[0..b], 0, q.subcomponent)
 }
 
+// The rows of the type that the field with that number names.
+fn named_rows(s: &[u8], q: Marks, t: &[u16], k: u16, number: u64) -> Rows
+    requires { ⌜ Sound (now t) × HasNumber (now s) k ⌝ }
+    requires { ⌜ pick (eqb k 1) 3 1 ≤ number ⌝ }
+    ensures { λ r. ⌜ Lists (now (t .entry)) r (leavesNamed (now (t .entry)) (namedIn q (now (s .entry)) number)) ⌝ }
+{
+    let x = field_text(s, q, k, number);
+    let to = first_leaf(x, q);
+    type_rows(t, &x[0..to])
+}
+
 // The rows of the leaves that a field lists: its own, from `at` up to `end`, or those of the type that another one names.
 fn leaf_rows(s: &[u8], q: Marks, t: &[u16], k: u16, at: usize, end: usize) -> Rows
     requires { ⌜ Sound (now t) × HasNumber (now s) k ⌝ }
@@ -97,9 +110,7 @@ fn leaf_rows(s: &[u8], q: Marks, t: &[u16], k: u16, at: usize, end: usize) -> Ro
     if named < 10 {
         return Rows { start: at, end };
     }
-    let x = field_text(s, q, k, (named - 10) as u64);
-    let to = first_leaf(x, q);
-    type_rows(t, &x[0..to])
+    named_rows(s, q, t, k, (named - 10) as u64)
 }
 
 // Whether the first repetition of the field with the rows from `at` up to `end` is filled.
@@ -194,6 +205,7 @@ pub fn read_segment(s: &[u8], q: Marks, t: &[u16], k: u16) -> Finding
     let last = rows.end;
     let skip = fields_start(s, k);
     let fields = &s[skip..];
+    let flat = is_flat(q, fields);
     let before = fields_before(k);
     let mut cursor = first_piece(fields, q.field);
     let mut at = rows.start;
@@ -211,9 +223,12 @@ pub fn read_segment(s: &[u8], q: Marks, t: &[u16], k: u16) -> Finding
                 }
             }
         } else {
-            let r = judge_field(s, &fields[from..to], q, t, k, at, end);
-            if r.reason != 0 {
-                return r;
+            let x = &fields[from..to];
+            if !flat_passes(x, q, flat, t, leaf_rows(s, q, t, k, at, end)) {
+                let r = judge_field(s, x, q, t, k, at, end);
+                if r.reason != 0 {
+                    return r;
+                }
             }
         }
         at = end;

@@ -3,6 +3,7 @@ use borrow.Author.Needs.{needs}
 use Prim.Native.Nat.{_+_, _-_}
 use native.Mathlib.Omega.{arith}
 use mathlib.Core.Logic.{⊎-elim}
+use Rattle.text.proofs.Tests.{not-true}
 use Rattle.parts.proofs.Moving.{cursor-inside}
 use Rattle.reader.proofs.LeafByLeaf.{Reading, reading-first, reading-number, reading-reason, reading-missing, reading-broken, reading-judged, reading-passed, reading-none, reading-inside}
 use Rattle.reader.proofs.repetition.read_repetition.Statement.{statement}
@@ -101,7 +102,7 @@ part-leaf-reason-end c =
 leaf-reason-requires : tie.Need-leaf-reason-requires Inv-loop μ-loop
 leaf-reason-requires c κs =
     let i = c .before .before .before .before .before .before .before .before .before .before .before .before in
-    (omega (arith, i .before .loop .inv .inside, i .loop-test .taken), reading-reason (i .before .loop .inv) (i .loop-test .taken))
+    (omega (arith, i .before .loop .inv .inside, i .loop-test .taken), (reading-reason (i .before .loop .inv) (i .loop-test .taken), λ e. not-true e))
 
 add-at : tie.Need-add-at Inv-loop μ-loop
 add-at c =

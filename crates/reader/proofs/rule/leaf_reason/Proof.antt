@@ -1,5 +1,9 @@
 -- `leaf_reason`: the first test that fails is the first broken check.
+use mathlib.Core.Path.{refl, sym, _∙_}
+use mathlib.Core.Bool.{false}
+use mathlib.Core.Logic.{⊎-elim}
 use borrow.Author.Needs.{needs}
+use borrow.Author.Tests.{not-false}
 use native.Mathlib.Omega.{arith}
 use Prim.Native.Nat.{_+_}
 use Rattle.reader.proofs.LeafRule.{rule-missing, rule-empty, rule-long, rule-escape, rule-type, rule-list, rule-good}
@@ -31,40 +35,45 @@ returns-3 c =
 
 returns-4 : tie.Need-returns-4
 returns-4 c =
-    let y = c .before .before in
+    let y = c .before .before .before in
     let x = y .before .before in
     let a = x .before .before .before .args in
-    rule-escape (a .q) (a .t .now) (a .at) (a .s .now) (x .if1 .left) (y .if3 .left) _ (c .before .bad-escape .ensures) (c .if4 .taken)
+    rule-escape (a .q) (a .t .now) (a .at) (a .s .now) (x .if1 .left) (y .if3 .left) _ (c .before .bad-escape .ensures) (c .if5 .taken)
 
 returns-5 : tie.Need-returns-5
 returns-5 c =
     let z = c .before .before .before in
-    let y = z .before .before in
+    let y = z .before in
     let x = y .before .before in
-    let a = x .before .before .before .args in
-    rule-type (a .q) (a .t .now) (a .at) (a .s .now) (x .if1 .left) (y .if3 .left) _ (z .before .bad-escape .ensures) (z .if4 .left) _ (c .before .is-of-type .ensures) (c .if5 .taken)
+    let o = x .before .before .before in
+    let a = o .args in
+    let good = ⊎-elim (λ w. sym (w .1 .ensures) ∙ w .2 .left) (λ w. o .pre .1 .1 (not-false _ (w .left))) (z .if4 .came) in
+    rule-type (a .q) (a .t .now) (a .at) (a .s .now) (x .if1 .left) (y .if3 .left) false (sym good) refl _ (c .before .is-of-type .ensures) (c .if6 .taken)
 
 returns-6 : tie.Need-returns-6
 returns-6 c =
     let v = c .before in
     let w = v .before .before .before in
     let z = w .before .before .before in
-    let y = z .before .before in
+    let y = z .before in
     let x = y .before .before in
-    let start = x .before .before .before in
-    let a = start .args in
-    rule-list (a .q) (a .t .now) (a .at) (a .s .now) (x .if1 .left) (y .if3 .left) _ (z .before .bad-escape .ensures) (z .if4 .left)
-    _ (w .before .is-of-type .ensures) (w .if5 .left) _ (v .before .is-in-list .ensures) (v .if6 .taken) (start .pre .1 .0)
+    let o = x .before .before .before in
+    let a = o .args in
+    let good = ⊎-elim (λ w. sym (w .1 .ensures) ∙ w .2 .left) (λ w. o .pre .1 .1 (not-false _ (w .left))) (z .if4 .came) in
+    rule-list (a .q) (a .t .now) (a .at) (a .s .now) (x .if1 .left) (y .if3 .left) false (sym good) refl
+    _ (w .before .is-of-type .ensures) (w .if6 .left) _ (v .before .is-in-list .ensures) (v .if7 .taken) (o .pre .1 .0 .0)
 
 returns-7 : tie.Need-returns-7
 returns-7 c =
     let w = c .before .before .before in
     let z = w .before .before .before in
-    let y = z .before .before in
+    let y = z .before in
     let x = y .before .before in
-    let a = x .before .before .before .args in
-    rule-good (a .q) (a .t .now) (a .at) (a .s .now) (x .if1 .left) (y .if3 .left) _ (z .before .bad-escape .ensures) (z .if4 .left)
-    _ (w .before .is-of-type .ensures) (w .if5 .left) _ (c .before .is-in-list .ensures) (c .if6 .left)
+    let o = x .before .before .before in
+    let a = o .args in
+    let good = ⊎-elim (λ w. sym (w .1 .ensures) ∙ w .2 .left) (λ w. o .pre .1 .1 (not-false _ (w .left))) (z .if4 .came) in
+    rule-good (a .q) (a .t .now) (a .at) (a .s .now) (x .if1 .left) (y .if3 .left) false (sym good) refl
+    _ (w .before .is-of-type .ensures) (w .if6 .left) _ (c .before .is-in-list .ensures) (c .if7 .left)
 
 pub leaf-reason-spec : {M : Type 1} → statement M
 leaf-reason-spec =

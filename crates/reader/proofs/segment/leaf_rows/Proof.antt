@@ -12,26 +12,23 @@ returns c =
     let a = o .args in
     lists-own (a .q) (a .t .now) (a .s .now) (a .k) (a .at) (a .end) (o .pre .1) (c .if1 .taken)
 
-cast-field-text : tie.Need-cast-field-text
-cast-field-text c =
+cast-named-rows : tie.Need-cast-named-rows
+cast-named-rows c =
     let a = c .before .before .before .before .args in
     omega (arith, c .before .shared-slice-known3 .given (a .at + 6))
 
-field-text-requires : tie.Need-field-text-requires
-field-text-requires c κs =
+named-rows-requires : tie.Need-named-rows-requires
+named-rows-requires c κs =
     let o = c .before .before .before .before in
     let a = o .args in
-    (o .pre .0 .1, named-from (a .q) (a .t .now) (a .s .now) (a .k) (a .at) (a .end) (o .pre .1) (c .if1 .left))
+    (o .pre .0, named-from (a .q) (a .t .now) (a .s .now) (a .k) (a .at) (a .end) (o .pre .1) (c .if1 .left))
 
 returns-2 : tie.Need-returns-2
 returns-2 c =
-    let l = c .before .before in
-    let x = l .before in
-    let e = x .before in
+    let e = c .before in
     let o = e .before .before .before .before in
     let a = o .args in
-    lists-named (a .q) (a .t .now) (a .s .now) (a .k) (a .at) (a .end) (o .pre .1) (e .if1 .left) (o .pre .0 .1) (c .type-rows .result)
-    (x .field-text .result .now) (x .field-text .ensures) (l .first-leaf .result) (l .first-leaf .ensures .1) (c .type-rows .ensures)
+    lists-named (a .q) (a .t .now) (a .s .now) (a .k) (a .at) (a .end) (o .pre .1) (e .if1 .left) (c .named-rows .result) (c .named-rows .ensures)
 
 pub leaf-rows-spec : {M : Type 1} → statement M
 leaf-rows-spec =
@@ -41,11 +38,6 @@ leaf-rows-spec =
     (λ c. search needs)
     (λ c. search needs)
     returns
-    cast-field-text
-    field-text-requires
-    (λ c κs. search needs)
-    (λ c. search needs)
-    (λ c. search needs)
-    (λ c. search needs)
-    (λ c κs. search needs)
+    cast-named-rows
+    named-rows-requires
     returns-2)

@@ -1,28 +1,33 @@
 -- `read_segment`: the first broken check of a segment's listed fields, told from the row where the loop stands.
-use mathlib.Core.Path.{refl}
+use mathlib.Core.Path.{refl, sym, _∙_}
 use mathlib.Core.Bool.{false}
 use Prim.Native.Nat.{_+_, _-_}
 use native.Mathlib.Omega.{arith}
 use lib.ListN.{length, getD}
 use borrow.Author.Needs.{needs}
+use borrow.Author.Tests.{not-false}
 use Rattle.text.specs.Bytes.{within}
 use Rattle.frame.specs.Segments.{name}
 use Rattle.parts.proofs.Moving.{cursor-inside}
 use Rattle.profile.proofs.Numbered.{named-number}
+use Rattle.profile.proofs.OneField.{field-most}
 use Rattle.profile.specs.Numbers.{tableOf}
 use Rattle.reader.specs.View.{segmentSeen}
+use Rattle.reader.specs.Judged.{leavesOfField, passed}
+use Rattle.reader.proofs.FieldLeaves.{lists-itself}
 use Rattle.reader.proofs.FieldText.{field-at}
-use Rattle.reader.proofs.FieldChecks.{usage-none}
+use Rattle.reader.proofs.FlatField.{flat-within}
+use Rattle.reader.proofs.FieldChecks.{usage-none, judged-filled}
 use Rattle.reader.proofs.SegmentFields.{on-bounds, on-field, on-number}
 use Rattle.reader.proofs.SegmentReading.{Reading, reading-first, low-number, reading-found, reading-on, none-found, none-on, reading-none}
 use Rattle.reader.proofs.segment.read_segment.Statement.{statement}
 use Rattle.reader.proofs.segment.read_segment.Tie as tie
 
 abbrev Inv-loop : tie.InvT-loop
-Inv-loop s q t k last skip fields before cursor₀ at₀ cursor at = Reading t q s k last fields cursor at
+Inv-loop s q t k last skip fields flat before cursor₀ at₀ cursor at = Reading t q s k last fields cursor at
 
 abbrev μ-loop : tie.MeasureT-loop
-μ-loop s q t k last skip fields before cursor₀ at₀ cursor at = last - at
+μ-loop s q t k last skip fields flat before cursor₀ at₀ cursor at = last - at
 
 rows-under-requires : tie.Need-rows-under-requires Inv-loop μ-loop
 rows-under-requires c κs =
@@ -33,7 +38,7 @@ rows-under-requires c κs =
 loop-holds : tie.Need-loop-holds Inv-loop μ-loop
 loop-holds c =
     let b = c .before in
-    let f = b .before .before in
+    let f = b .before .before .before in
     let u = f .before in
     let o = u .before .before .before in
     let a = o .args in
@@ -67,7 +72,7 @@ sub-advance c =
     let i = d .before in
     let l = i .before in
     let b = l .before .before in
-    let f = b .before .before in
+    let f = b .before .before .before in
     let u = f .before in
     let o = u .before .before .before in
     let a = o .args in
@@ -81,7 +86,7 @@ advance-requires c κs =
     let i = d .before in
     let l = i .before in
     let b = l .before .before in
-    let f = b .before .before in
+    let f = b .before .before .before in
     let u = f .before in
     let o = u .before .before .before in
     let a = o .args in
@@ -92,17 +97,25 @@ advance-requires c κs =
     )
 
 add-usage : tie.Need-add-usage Inv-loop μ-loop
-add-usage c = search needs
+add-usage c =
+    let i = c .before .before .before .before in
+    let l = i .before in
+    let o = l .before .before .before .before .before .before .before .before .before in
+    omega (arith, i .loop-test .taken, l .loop .inv .left .order, l .loop .inv .left .inside, o .good)
 
 mul-usage : tie.Need-mul-usage Inv-loop μ-loop
-mul-usage c = search needs
+mul-usage c =
+    let i = c .before .before .before .before in
+    let l = i .before in
+    let o = l .before .before .before .before .before .before .before .before .before in
+    omega (arith, i .loop-test .taken, l .loop .inv .left .order, l .loop .inv .left .inside, o .good)
 
 shared-slice-read-usage : tie.Need-shared-slice-read-usage Inv-loop μ-loop
 shared-slice-read-usage c =
     let d = c .before .before .before .before in
     let i = d .before in
     let l = i .before in
-    let u = l .before .before .before .before .before in
+    let u = l .before .before .before .before .before .before in
     let a = u .before .before .before .args in
     omega (arith, l .loop .inv .left .inside, on-bounds (a .t .now) (a .k) (l .loop .at) (u .rows-under .result .end) (d .field-end .result) (l .loop .inv .left) (i .loop-test .taken) (d .field-end .ensures))
 
@@ -116,7 +129,7 @@ returns c =
     let i = d .before in
     let l = i .before in
     let b = l .before .before in
-    let f = b .before .before in
+    let f = b .before .before .before in
     let u = f .before in
     let o = u .before .before .before in
     let a = o .args in
@@ -125,22 +138,51 @@ returns c =
     (l .loop .inv) (i .loop-test .taken) (d .field-end .ensures) (o .pre .1) (f .fields-start .ensures) (b .fields-before .ensures) (v .advance .result) (v .advance .ensures .0) (v .advance .ensures .1)
     (h .if1 .taken) (g .is-required .result) (g .is-required .ensures) (y .if3 .taken))
 
-part-judge-field-end : tie.Need-part-judge-field-end Inv-loop μ-loop
-part-judge-field-end c =
+part-x-end : tie.Need-part-x-end Inv-loop μ-loop
+part-x-end c =
     let v = c .before in
     let l = v .before .before .before .before in
-    let f = l .before .before .before .before in
+    let f = l .before .before .before .before .before in
     let a = f .before .before .before .before .args in
     omega (arith, cursor-inside (a .q .field) (within (f .fields-start .result) (length (a .s .now)) (a .s .now)) (v .advance .result) (v .advance .ensures .0))
 
-judge-field-requires : tie.Need-judge-field-requires Inv-loop μ-loop
-judge-field-requires c κs =
+leaf-rows-requires : tie.Need-leaf-rows-requires Inv-loop μ-loop
+leaf-rows-requires c κs =
     let v = c .before .before in
     let d = v .before .before in
     let i = d .before in
     let l = i .before in
     let b = l .before .before in
-    let f = b .before .before in
+    let f = b .before .before .before in
+    let u = f .before in
+    let o = u .before .before .before in
+    let a = o .args in
+    (o .pre, on-field (a .t .now) (a .k) (l .loop .at) (u .rows-under .result .end) (d .field-end .result) (l .loop .inv .left) (i .loop-test .taken) (d .field-end .ensures))
+
+flat-passes-requires : tie.Need-flat-passes-requires Inv-loop μ-loop
+flat-passes-requires c κs =
+    let v = c .before .before .before in
+    let d = v .before .before in
+    let i = d .before in
+    let l = i .before in
+    let b = l .before .before in
+    let f = b .before .before .before in
+    let u = f .before in
+    let o = u .before .before .before in
+    let a = o .args in
+    let x = within (f .fields-start .result) (length (a .s .now)) (a .s .now) in (
+      lists-itself (a .t .now) (c .leaf-rows .result) (leavesOfField (a .q) (a .t .now) (a .s .now) (l .loop .at) (d .field-end .result)) (c .leaf-rows .ensures),
+      λ e. flat-within (a .q) (v .advance .result .start) (v .advance .result .end) x (sym (b .before .is-flat .ensures) ∙ e),
+    )
+
+judge-field-requires : tie.Need-judge-field-requires Inv-loop μ-loop
+judge-field-requires c κs =
+    let v = c .before .before .before .before .before in
+    let d = v .before .before in
+    let i = d .before in
+    let l = i .before in
+    let b = l .before .before in
+    let f = b .before .before .before in
     let u = f .before in
     let o = u .before .before .before in
     let a = o .args in
@@ -158,24 +200,24 @@ judge-field-requires c κs =
 returns-2 : tie.Need-returns-2 Inv-loop μ-loop
 returns-2 c =
     let j = c .before .before in
-    let d = j .before .before .before .before .before in
+    let d = j .before .before .before .before .before .before .before .before in
     let i = d .before in
     let l = i .before in
     let b = l .before .before in
-    let f = b .before .before in
+    let f = b .before .before .before in
     let u = f .before in
     let o = u .before .before .before in
     let a = o .args in
     let x = within (f .fields-start .result) (length (a .s .now)) (a .s .now) in
     reading-found (a .t .now) (a .q) (a .s .now) (a .k) (u .rows-under .result .end) x (l .loop .cursor) (l .loop .at) (d .field-end .result)
-    (l .loop .inv) (i .loop-test .taken) (d .field-end .ensures) (j .judge-field .result) (j .judge-field .ensures) (c .if4 .taken)
+    (l .loop .inv) (i .loop-test .taken) (d .field-end .ensures) (j .judge-field .result) (j .judge-field .ensures) (c .if5 .taken)
 
 loop-less : tie.Need-loop-less Inv-loop μ-loop
 loop-less c =
     let d = c .before .before .before .before .before .before .before in
     let i = d .before in
     let l = i .before in
-    let u = l .before .before .before .before .before in
+    let u = l .before .before .before .before .before .before in
     let a = u .before .before .before .args in
     omega (arith, i .loop-test .taken, on-bounds (a .t .now) (a .k) (l .loop .at) (u .rows-under .result .end) (d .field-end .result) (l .loop .inv .left) (i .loop-test .taken) (d .field-end .ensures))
 
@@ -188,7 +230,7 @@ loop-again c =
     let i = d .before in
     let l = i .before in
     let b = l .before .before in
-    let f = b .before .before in
+    let f = b .before .before .before in
     let u = f .before in
     let o = u .before .before .before in
     let a = o .args in
@@ -201,7 +243,7 @@ loop-less-2 c =
     let d = c .before .before .before .before .before in
     let i = d .before in
     let l = i .before in
-    let u = l .before .before .before .before .before in
+    let u = l .before .before .before .before .before .before in
     let a = u .before .before .before .args in
     omega (arith, i .loop-test .taken, on-bounds (a .t .now) (a .k) (l .loop .at) (u .rows-under .result .end) (d .field-end .result) (l .loop .inv .left) (i .loop-test .taken) (d .field-end .ensures))
 
@@ -213,7 +255,7 @@ loop-again-2 c =
     let i = d .before in
     let l = i .before in
     let b = l .before .before in
-    let f = b .before .before in
+    let f = b .before .before .before in
     let u = f .before in
     let o = u .before .before .before in
     let a = o .args in
@@ -223,36 +265,73 @@ loop-again-2 c =
 
 loop-less-3 : tie.Need-loop-less-3 Inv-loop μ-loop
 loop-less-3 c =
-    let d = c .before .before .before .before .before .before .before in
+    let d = c .before .before .before .before .before .before .before .before .before .before in
     let i = d .before in
     let l = i .before in
-    let u = l .before .before .before .before .before in
+    let u = l .before .before .before .before .before .before in
     let a = u .before .before .before .args in
     omega (arith, i .loop-test .taken, on-bounds (a .t .now) (a .k) (l .loop .at) (u .rows-under .result .end) (d .field-end .result) (l .loop .inv .left) (i .loop-test .taken) (d .field-end .ensures))
 
 loop-again-3 : tie.Need-loop-again-3 Inv-loop μ-loop
 loop-again-3 c =
     let j = c .before .before in
-    let v = j .before .before .before in
+    let v = j .before .before .before .before .before .before in
     let d = v .before .before in
     let i = d .before in
     let l = i .before in
     let b = l .before .before in
-    let f = b .before .before in
+    let f = b .before .before .before in
     let u = f .before in
     let o = u .before .before .before in
     let a = o .args in
     let x = within (f .fields-start .result) (length (a .s .now)) (a .s .now) in
     reading-on (a .t .now) (a .q) (a .s .now) (a .k) (u .rows-under .result .end) x (l .loop .cursor) (l .loop .at) (d .field-end .result)
-    (l .loop .inv) (i .loop-test .taken) (d .field-end .ensures) (j .judge-field .result) (j .judge-field .ensures) (c .if4 .left)
+    (l .loop .inv) (i .loop-test .taken) (d .field-end .ensures) (j .judge-field .result) (j .judge-field .ensures) (c .if5 .left)
     (v .advance .result) (b .fields-before .result) (b .fields-before .ensures) (v .advance .ensures .0) (v .advance .ensures .1)
+
+loop-less-4 : tie.Need-loop-less-4 Inv-loop μ-loop
+loop-less-4 c =
+    let d = c .before .before .before .before .before .before .before in
+    let i = d .before in
+    let l = i .before in
+    let u = l .before .before .before .before .before .before in
+    let a = u .before .before .before .args in
+    omega (arith, i .loop-test .taken, on-bounds (a .t .now) (a .k) (l .loop .at) (u .rows-under .result .end) (d .field-end .result) (l .loop .inv .left) (i .loop-test .taken) (d .field-end .ensures))
+
+loop-again-4 : tie.Need-loop-again-4 Inv-loop μ-loop
+loop-again-4 c =
+    let p = c .before in
+    let r = p .before in
+    let v = r .before .before .before in
+    let d = v .before .before in
+    let i = d .before in
+    let l = i .before in
+    let b = l .before .before in
+    let f = b .before .before .before in
+    let u = f .before in
+    let o = u .before .before .before in
+    let a = o .args in
+    let x = within (f .fields-start .result) (length (a .s .now)) (a .s .now) in
+    let t = a .t .now in
+    let w = l .loop .inv .left in
+    let e = d .field-end .result in
+    let m = on-number t (a .k) (l .loop .at) (u .rows-under .result .end) e w (i .loop-test .taken) (d .field-end .ensures) in
+    let is = on-field t (a .k) (l .loop .at) (u .rows-under .result .end) e w (i .loop-test .taken) (d .field-end .ensures) in
+    let y =
+    field-at (a .s .now) (a .k) (o .pre .1) (getD t (l .loop .at + 1) 0) m (a .q) (f .fields-start .result) (b .fields-before .result) (v .advance .result)
+    (f .fields-start .ensures) (b .fields-before .ensures) (v .advance .ensures .0) (v .advance .ensures .1) in
+    reading-on t (a .q) (a .s .now) (a .k) (u .rows-under .result .end) x (l .loop .cursor) (l .loop .at) e (l .loop .inv) (i .loop-test .taken) (d .field-end .ensures)
+    (record { reason = 0; field = getD t (l .loop .at + 1) 0; repetition = 1; component = 0; subcomponent = 0 })
+    (judged-filled (a .q) t (a .s .now) (a .k) (l .loop .at) e (o .pre .1) m (within (v .advance .result .start) (v .advance .result .end) x) y (r .leaf-rows .result) (r .leaf-rows .ensures) passed
+    (p .flat-passes .ensures (not-false _ (c .if4 .left)) (getD t (l .loop .at + 5) 0) (field-most t (a .k) (l .loop .at) e is)) refl refl)
+    refl (v .advance .result) (b .fields-before .result) (b .fields-before .ensures) (v .advance .ensures .0) (v .advance .ensures .1)
 
 returns-3 : tie.Need-returns-3 Inv-loop μ-loop
 returns-3 c =
     let z = c .before in
     let l = z .before in
     let b = l .before .before in
-    let f = b .before .before in
+    let f = b .before .before .before in
     let u = f .before in
     let o = u .before .before .before in
     let a = o .args in
@@ -273,6 +352,7 @@ read-segment-spec =
     (λ c. search needs)
     (λ c κs. search needs)
     (λ c κs. search needs)
+    (λ c κs. search needs)
     loop-holds
     sub-loop
     field-end-requires
@@ -290,7 +370,9 @@ read-segment-spec =
     returns
     (λ c. search needs)
     (λ c. search needs)
-    part-judge-field-end
+    part-x-end
+    leaf-rows-requires
+    flat-passes-requires
     judge-field-requires
     returns-2
     loop-less
@@ -299,5 +381,7 @@ read-segment-spec =
     loop-again-2
     loop-less-3
     loop-again-3
+    loop-less-4
+    loop-again-4
     (λ c κs. search needs)
     returns-3)
