@@ -1,0 +1,134 @@
+// The lines that tell what an entry answered. What has no room is left out: the program lends room for every answer.
+use crate::spelling::put_string;
+use reader::Found;
+use reader::Verdict;
+use slip::Filed;
+use slip::Value;
+use text::Refusal;
+use text::Written;
+use text::number;
+
+pub fn put_byte(out: &mut [u8], at: usize, b: u8) -> usize {
+    if at < out.len() {
+        out[at] = b;
+        return at + 1;
+    }
+    at
+}
+
+pub fn put(out: &mut [u8], at: usize, t: &[u8]) -> usize {
+    if out.len() < at {
+        return at;
+    }
+    if out.len() - at < t.len() {
+        return at;
+    }
+    text::put(out, at, t)
+}
+
+pub fn put_decimal(out: &mut [u8], at: usize, n: u64) -> usize {
+    let mut digits = [0u8; 20];
+    let k = io::decimal(n, &mut digits);
+    put(out, at, &digits[..k])
+}
+
+// A blank and a number.
+fn put_number(out: &mut [u8], at: usize, n: u64) -> usize {
+    let a = put_byte(out, at, b' ');
+    put_decimal(out, a, n)
+}
+
+// A blank, a string, and the line's end.
+fn put_last(out: &mut [u8], at: usize, s: &[u8]) -> usize {
+    let a = put_byte(out, at, b' ');
+    let b = put_string(out, a, s);
+    put_byte(out, b, b'\n')
+}
+
+fn put_refused(out: &mut [u8], r: Refusal) -> usize {
+    let a = put(out, 0, b"refused");
+    put_number(out, a, number(r) as u64)
+}
+
+pub fn tell_no_call(out: &mut [u8]) -> usize {
+    put(out, 0, b"no call\n")
+}
+
+fn tell_refused(out: &mut [u8], r: Refusal) -> usize {
+    let a = put_refused(out, r);
+    put_byte(out, a, b'\n')
+}
+
+// The verdict's line is the desk's.
+pub fn tell_verdict(out: &mut [u8], v: Verdict) -> usize {
+    if out.len() < 192 {
+        return 0;
+    }
+    line::desk_line(v, out)
+}
+
+// The bytes from start up to end. The entries promise that they lie inside; here it is tested, so that nothing is to be shown of it.
+fn part(s: &[u8], start: usize, end: usize) -> &[u8] {
+    if s.len() < end {
+        return &s[..0];
+    }
+    if end < start {
+        return &s[..0];
+    }
+    &s[start..end]
+}
+
+// Start and end of a part behind the word that tells it, and the part.
+fn put_part(out: &mut [u8], at: usize, s: &[u8], start: usize, end: usize) -> usize {
+    let a = put_number(out, at, start as u64);
+    let b = put_number(out, a, end as u64);
+    put_last(out, b, part(s, start, end))
+}
+
+pub fn tell_found(out: &mut [u8], f: Found, m: &[u8]) -> usize {
+    match f {
+        Found::Refused(r) => tell_refused(out, r),
+        Found::Empty => put(out, 0, b"empty\n"),
+        Found::Text { start, end } => {
+            let a = put(out, 0, b"text");
+            put_part(out, a, m, start, end)
+        }
+    }
+}
+
+pub fn tell_value(out: &mut [u8], v: Value, book: &[u8]) -> usize {
+    match v {
+        Value::Refused(r) => tell_refused(out, r),
+        Value::Part { start, end } => {
+            let a = put(out, 0, b"value");
+            put_part(out, a, book, start, end)
+        }
+    }
+}
+
+pub fn tell_written(out: &mut [u8], w: Written, buffer: &[u8]) -> usize {
+    match w {
+        Written::Refused(r) => {
+            let a = put_refused(out, r);
+            put_last(out, a, buffer)
+        }
+        Written::Bytes(n) => {
+            let a = put(out, 0, b"written");
+            let b = put_number(out, a, n as u64);
+            put_last(out, b, buffer)
+        }
+    }
+}
+
+pub fn tell_filed(out: &mut [u8], f: Filed, book: &[u8]) -> usize {
+    match f {
+        Filed::Refused(r) => {
+            let a = put_refused(out, r);
+            put_last(out, a, book)
+        }
+        Filed::Slip => {
+            let a = put(out, 0, b"filed");
+            put_last(out, a, book)
+        }
+    }
+}
