@@ -1,0 +1,58 @@
+//! The five escapes, and text with them resolved.
+
+use crate::refusal::Refusal;
+
+/// The bytes of a text with its escapes resolved, read from the left; an
+/// error where a `\` begins no escape.
+struct Resolved<'t> {
+    rest: &'t [u8],
+}
+
+impl Iterator for Resolved<'_> {
+    type Item = Result<u8, Refusal>;
+
+    fn next(&mut self) -> Option<Self::Item> {
+        let (byte, length) = match *self.rest {
+            [] => return None,
+            [b'\\', code, b'\\', ..] => (separator(code), 3),
+            [b'\\', ..] => (Err(Refusal::BadEscape), 1),
+            [byte, ..] => (Ok(byte), 1),
+        };
+        self.rest = &self.rest[length..];
+        Some(byte)
+    }
+}
+
+/// The separator an escape stands for.
+fn separator(code: u8) -> Result<u8, Refusal> {
+    match code {
+        b'F' => Ok(b'|'),
+        b'S' => Ok(b'^'),
+        b'T' => Ok(b'&'),
+        b'R' => Ok(b'~'),
+        b'E' => Ok(b'\\'),
+        _ => Err(Refusal::BadEscape),
+    }
+}
+
+/// How many bytes the text has when resolved.
+fn resolved_length(text: &[u8]) -> Result<usize, Refusal> {
+    Resolved { rest: text }.try_fold(0, |length, byte| byte.map(|_| length + 1))
+}
+
+/// Whether every `\` of the text begins one of the five escapes.
+pub fn is_sound(text: &[u8]) -> bool {
+    // Most texts have no escape at all.
+    !text.contains(&b'\\') || resolved_length(text).is_ok()
+}
+
+/// Writes the text, its escapes resolved, at the front of the buffer and
+/// says how many bytes it wrote. Refuses with 20, then 14.
+pub fn resolve(text: &[u8], buffer: &mut [u8]) -> Result<usize, Refusal> {
+    let length = resolved_length(text)?;
+    let room = buffer.get_mut(..length).ok_or(Refusal::NoRoom)?;
+    for (place, byte) in room.iter_mut().zip(Resolved { rest: text }) {
+        *place = byte?;
+    }
+    Ok(length)
+}
