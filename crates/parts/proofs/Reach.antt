@@ -106,6 +106,9 @@ module _ (sep : ℕ) where
   unfolding reach
   reach-on t i h e = rw (add-one, drop-cons t i 0 h, ne-eqb (getD t i 0) sep e)
 
+  pub reach-next : (t : Text) (i j : ℕ) → j ≡ i + 1 → i < length t → (getD t i 0 ≡ sep → ⊥) → reach sep (drop i t) ≡ suc (reach sep (drop j t))
+  reach-next t i j e h n = rw e (reach-on t i h n)
+
   pub reach-end : (t : Text) (i : ℕ) → length t ≤ i → reach sep (drop i t) ≡ 0
   unfolding reach
   reach-end t i h = rw (drop-of-length-le t h)

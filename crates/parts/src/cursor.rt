@@ -2,7 +2,7 @@
 ghost use mathlib.Core.Path.{_≡_};
 ghost use Prim.Native.Nat.{_≤_};
 ghost use Rattle.parts.specs.Span.{IsPiece};
-use crate::piece_end;
+use crate::near_end;
 
 // The piece with that number, from 1. Where there is none it is empty and stands at the text's end.
 pub struct Cursor {
@@ -18,7 +18,7 @@ pub fn first_piece(t: &[u8], sep: u8) -> Cursor
     Cursor {
         number: 1,
         start: 0,
-        end: piece_end(t, 0, sep),
+        end: near_end(t, 0, sep),
     }
 }
 
@@ -39,7 +39,7 @@ pub fn advance(t: &[u8], sep: u8, at: Cursor, n: u64) -> Cursor
             };
         }
         start = end + 1;
-        end = piece_end(t, start, sep);
+        end = near_end(t, start, sep);
         number += 1;
     }
     Cursor { number, start, end }

@@ -29,8 +29,8 @@ pub struct Numbers {
     pub subcomponent: u64,
 }
 
-// Where the piece that begins at `from` ends: at the next separator, or at the text's end.
-pub fn piece_end(t: &[u8], from: usize, sep: u8) -> usize
+// Where the piece that begins at `from` ends, byte by byte.
+fn last_end(t: &[u8], from: usize, sep: u8) -> usize
     ensures { λ r. ⌜ r ≡ from + reach sep (drop from (now (t .entry))) ⌝ }
 {
     let mut i = from;
@@ -41,6 +41,31 @@ pub fn piece_end(t: &[u8], from: usize, sep: u8) -> usize
         i += 1;
     }
     i
+}
+
+// Where the piece that begins at `from` ends: at the next separator, or at the text's end. Four bytes a turn: most pieces are short, and
+// half of a turn of one byte would be counting. Inner: the callers hold that `from` lies in the text.
+pub fn near_end(t: &[u8], from: usize, sep: u8) -> usize
+    requires { ⌜ from ≤ length (now t) ⌝ }
+    ensures { λ r. ⌜ r ≡ from + reach sep (drop from (now (t .entry))) ⌝ }
+{
+    let mut i = from;
+    while 4 <= t.len() - i {
+        if t[i] == sep {
+            return i;
+        }
+        if t[i + 1] == sep {
+            return i + 1;
+        }
+        if t[i + 2] == sep {
+            return i + 2;
+        }
+        if t[i + 3] == sep {
+            return i + 3;
+        }
+        i += 4;
+    }
+    last_end(t, i, sep)
 }
 
 // Whether one of sixteen bytes is the separator: no early way out, so that they are compared at once. Only that none is missed is promised,
@@ -58,7 +83,7 @@ fn sixteen_have(t: &[u8], from: usize, sep: u8) -> bool
     some
 }
 
-// The same end, found faster where separators stand far apart. Inner: the callers hold that `from` lies in the text.
+// The same end, found faster where separators stand far apart. Inner as well.
 pub fn far_end(t: &[u8], from: usize, sep: u8) -> usize
     requires { ⌜ from ≤ length (now t) ⌝ }
     ensures { λ r. ⌜ r ≡ from + reach sep (drop from (now (t .entry))) ⌝ }
@@ -66,11 +91,24 @@ pub fn far_end(t: &[u8], from: usize, sep: u8) -> usize
     let mut i = from;
     while 16 <= t.len() - i {
         if sixteen_have(t, i, sep) {
-            return piece_end(t, i, sep);
+            return near_end(t, i, sep);
         }
         i += 16;
     }
-    piece_end(t, i, sep)
+    last_end(t, i, sep)
+}
+
+// The same end of any text, and from any place on.
+pub fn piece_end(t: &[u8], from: usize, sep: u8) -> usize
+    ensures { λ r. ⌜ r ≡ from + reach sep (drop from (now (t .entry))) ⌝ }
+{
+    if from < t.len() {
+        if t[from] == sep {
+            return from;
+        }
+        return far_end(t, from, sep);
+    }
+    from
 }
 
 // Piece number n of a text, from 1. Where there is none it is empty and stands at the text's end.
@@ -82,13 +120,13 @@ pub fn piece(t: &[u8], sep: u8, n: u64) -> Span
     }
     let mut left = n - 1;
     let mut from = 0;
-    let mut to = piece_end(t, 0, sep);
+    let mut to = near_end(t, 0, sep);
     while 0 < left {
         if t.len() <= to {
             return Span { start: to, end: to };
         }
         from = to + 1;
-        to = piece_end(t, from, sep);
+        to = near_end(t, from, sep);
         left -= 1;
     }
     Span {

@@ -9,12 +9,14 @@ use lib.Seq.{take-all}
 use lib.Dec.{eqb, ltb}
 use borrow.Author.Tests.{not-true}
 use Rattle.text.specs.Bytes.{Text, every, within}
-use Rattle.text.specs.Escape.{endsOutside, outside, badEscape}
+use Rattle.text.specs.Escape.{badEscape}
+use Rattle.text.specs.Step.{isOther}
+use Rattle.text.proofs.Escapes.{free-ends}
 use Rattle.text.specs.declared.marks.Marks.{Marks}
 use Rattle.text.proofs.Tests.{both}
 use Rattle.text.proofs.Tests.{not-true as no}
 use native.Mathlib.Nat.{zero-add}
-use Rattle.text.proofs.Lists.{or-none}
+use Rattle.text.proofs.Lists.{and-both, or-none}
 use Rattle.text.proofs.TypeLaws.{every-drop}
 use Rattle.parts.specs.Split.{split, piece, start}
 use Rattle.parts.specs.Span.{span, IsPiece}
@@ -44,11 +46,11 @@ module _ (q : Marks) where
   pub record Flat (x : Text) : Type 0 where
     pub repetition : Free (q .repetition) x
     pub subcomponent : Free (q .subcomponent) x
-    pub escape : Free (q .escape) x
+    pub escape : every (isOther (q .escape)) x ≡ true
 
   flat : (x : Text) → isFlat q x ≡ true → Flat x
   unfolding every
-  flat [] e = record { repetition = tt; subcomponent = tt; escape = tt }
+  flat [] e = record { repetition = tt; subcomponent = tt; escape = refl }
   flat (b ∷ x) e =
       let h = both (isPlain q b) (isFlat q x) e in
       let a = or-none (eqb b (q .repetition)) (eqb b (q .subcomponent) || eqb b (q .escape)) (not-true _ (h .0)) in
@@ -57,16 +59,11 @@ module _ (q : Marks) where
       record {
         repetition = (a .0, w .repetition);
         subcomponent = (c .0, w .subcomponent);
-        escape = (c .1, w .escape);
+        escape = and-both (isOther (q .escape) b) (every (isOther (q .escape)) x) (ap not (c .1)) (w .escape);
       }
 
-  free-outside : (x : Text) → Free (q .escape) x → endsOutside q outside x ≡ true
-  unfolding endsOutside
-  free-outside [] f = refl
-  free-outside (b ∷ x) f = rw (f .0) (free-outside x (f .1))
-
   pub flat-plain : (x : Text) → isFlat q x ≡ true → badEscape q x ≡ false
-  flat-plain x h = rw (free-outside x (flat x h .escape))
+  flat-plain x h = ap not (free-ends q x (flat x h .escape))
 
   -- it is its own first subcomponent
   flat-leaf : (x : Text) → isFlat q x ≡ true → span 0 x ≡ span (start (q .subcomponent) 1 x) (piece 1 (split (q .subcomponent) x))

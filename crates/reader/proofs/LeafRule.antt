@@ -1,5 +1,5 @@
 -- The first check that a leaf's text breaks: one law for each way out.
-use mathlib.Core.Path.{_≡_, refl}
+use mathlib.Core.Path.{_≡_, refl, sym}
 use Prim.Native.Nat.{ℕ, _+_, _≤_, _<_}
 use native.Mathlib.Omega.{arith}
 use mathlib.Core.Bool.{Bool, true, false, not}
@@ -12,6 +12,7 @@ use Rattle.text.specs.Escape.{endsOutside, badEscape}
 use Rattle.text.specs.declared.marks.Marks.{Marks}
 use Rattle.text.proofs.Tests.{empty-none, empty-some}
 use Rattle.profile.specs.Table.{ofType, among}
+use Rattle.profile.proofs.Numbered.{other-type}
 use Rattle.profile.specs.Numbers.{leafOf, simpleOf, codesOf}
 use Rattle.reader.specs.Place.{Place}
 use Rattle.reader.specs.Fault.{Verdict, accepted, fault, check, leafChecks, firstBroken}
@@ -71,3 +72,10 @@ module _ (q : Marks) (t : List ℕ) (at : ℕ) (s : Text) where
             pub rule-good : not listed ≡ false → (p : Place) → accepted ≡ first p
             unfolding firstBroken
             rule-good e p = rw (short p, ← escaped, good, ← is-typed, of-type, ← is-listed, e)
+
+-- a leaf whose type and list take any text
+pub rule-any : (q : Marks) (t : List ℕ) (at : ℕ) (s : Text) → 0 < length s → length s ≤ getD t (at + 8) 0 → 4 < getD t (at + 6) 0 → getD t (at + 9) 0 ≡ 0 → badEscape q s ≡ false
+    → (p : Place) → accepted ≡ firstBroken (leafChecks q p (leafOf (drop at t)) s)
+rule-any q t at s some fits type list good p =
+    rule-good q t at s (λ z. omega (arith, z)) fits false (sym good) refl true
+    (other-type (getD t (at + 6) 0) s (λ z. omega (arith, z)) (λ z. omega (arith, z)) (λ z. omega (arith, z)) (λ z. omega (arith, z))) refl true (rw list) refl p

@@ -7,6 +7,7 @@ ghost use Rattle.profile.specs.Inner.{Lists, leavesAt};
 ghost use Rattle.reader.specs.Judged.{ReadsField, ReadsRepetition, isPlain, isFlat, passed, passedOnce};
 use crate::repetition::missing_leaves;
 use crate::rule::leaf_reason;
+use crate::rule::takes_any;
 use parts::advance;
 use parts::first_piece;
 use profile::Rows;
@@ -54,8 +55,10 @@ fn leaves_pass(s: &[u8], q: Marks, t: &[u16], rows: Rows) -> bool
         let from = cursor.start;
         let to = cursor.end;
         let leaf = &s[from..to];
-        if leaf_reason(leaf, q, true, t, at) != 0 {
-            return false;
+        if !takes_any(leaf.len(), t, at) {
+            if leaf_reason(leaf, q, true, t, at) != 0 {
+                return false;
+            }
         }
         filled = filled | (0 < leaf.len());
         at += 11;

@@ -3,10 +3,12 @@ ghost use mathlib.Core.Path.{_≡_};
 ghost use mathlib.Core.Bool.{true, false};
 ghost use Prim.Native.Nat.{_+_, _≤_};
 ghost use lib.ListN.{length, drop, getD};
+ghost use Rattle.text.specs.Bytes.{Text};
+ghost use Rattle.text.specs.declared.marks.Marks.{Marks};
 ghost use Rattle.text.specs.Escape.{badEscape};
 ghost use Rattle.profile.specs.Numbers.{leafOf};
 ghost use Rattle.reader.specs.Place.{Place};
-ghost use Rattle.reader.specs.Fault.{leafChecks, firstBroken};
+ghost use Rattle.reader.specs.Fault.{accepted, leafChecks, firstBroken};
 ghost use Rattle.reader.specs.Judged.{told};
 use profile::is_in_list;
 use profile::is_of_type;
@@ -42,4 +44,13 @@ pub fn leaf_reason(s: &[u8], q: Marks, plain: bool, t: &[u16], at: usize) -> u8
         return t[at + 10] as u8;
     }
     0
+}
+
+// Whether any text of that length, with no bad escape, will do at the leaf of a row: it has some bytes and not too many, and the leaf's type
+// and list take all. Most leaves are of this kind, and this spares them the call.
+pub fn takes_any(n: usize, t: &[u16], at: usize) -> bool
+    requires { ⌜ at + 11 ≤ length (now t) ⌝ }
+    ensures { λ r. ⌜ (r ≡ true → (q : Marks) (s : Text) → length s ≡ n → badEscape q s ≡ false → (p : Place) → accepted ≡ firstBroken (leafChecks q p (leafOf (drop at (now (t .entry)))) s)) ⌝ }
+{
+    (0 < n) & ((n <= t[at + 8] as usize) & ((4 < t[at + 6]) & (t[at + 9] == 0)))
 }

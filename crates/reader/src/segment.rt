@@ -224,7 +224,11 @@ pub fn read_segment(s: &[u8], q: Marks, t: &[u16], k: u16) -> Finding
             }
         } else {
             let x = &fields[from..to];
-            if !flat_passes(x, q, flat, t, leaf_rows(s, q, t, k, at, end)) {
+            let mut leaves = Rows { start: at, end };
+            if 10 <= t[at + 6] {
+                leaves = leaf_rows(s, q, t, k, at, end);
+            }
+            if !flat_passes(x, q, flat, t, leaves) {
                 let r = judge_field(s, x, q, t, k, at, end);
                 if r.reason != 0 {
                     return r;

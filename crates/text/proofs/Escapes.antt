@@ -9,11 +9,12 @@ use lib.ListN.{length, getD, take, drop, set, length-drop, length-set, drop-of-l
 use lib.Seq.{drop-cons, drop-drop, getD-drop, take-suc-set, drop-set-lt, append-snoc}
 use lib.Dec.{eqb, ltb}
 use borrow.Author.Tests.{eq-eqb, ne-eqb, lt-ltb, le-ltb}
-use Rattle.text.specs.Bytes.{Text, pick, byte}
+use borrow.Author.Tests.{not-true as not-taken}
+use Rattle.text.specs.Bytes.{Text, pick, byte, every}
 use Rattle.text.specs.Answer.{Answer, refused, given, test, first, bufferAfter, reported, writtenOf}
 use Rattle.text.specs.Marks.{usual}
 use Rattle.text.specs.Escape.{Stand, outside, begun, meaning, wrong, letter, next, isOutside, endsOutside, badEscape, adding, resolvedFrom, resolved, resolve}
-use Rattle.text.specs.Step.{isLetter, meant, isEscape}
+use Rattle.text.specs.Step.{isOther, isLetter, meant, isEscape}
 use Rattle.text.specs.Promise.{Resolves}
 use Rattle.text.specs.Puts.{Puts}
 use Rattle.text.specs.declared.marks.Marks.{Marks}
@@ -41,6 +42,14 @@ letter-means q b =
     (q .escape)
 
 module _ (q : Marks) where
+  -- a text with no \ ends outside
+  pub free-ends : (t : Text) → every (isOther (q .escape)) t ≡ true → endsOutside q outside t ≡ true
+  unfolding endsOutside every
+  free-ends [] e = refl
+  free-ends (b ∷ t) e =
+      let h = both (isOther (q .escape) b) (every (isOther (q .escape)) t) e in
+      rw (not-taken (eqb b (q .escape)) (h .0)) (free-ends t (h .1))
+
   -- a bad escape stays one
   wrong-ends : (t : Text) → endsOutside q wrong t ≡ false
   unfolding endsOutside

@@ -1,10 +1,14 @@
 -- One step through a text with escapes. Only inner functions promise it.
 use Prim.Native.Nat.{ℕ}
-use mathlib.Core.Bool.{Bool, false, _&&_, _||_}
+use mathlib.Core.Bool.{Bool, false, not, _&&_, _||_}
 use mathlib.Core.List.{[], _∷_}
 use lib.Dec.{eqb}
 use Rattle.text.specs.Bytes.{Text, pick, byte}
 use Rattle.text.specs.declared.marks.Marks.{Marks}
+
+-- a byte other than that one
+abbrev pub isOther : ℕ → ℕ → Bool
+isOther mark b = not (eqb b mark)
 
 -- the letter of one of the five
 abbrev pub isLetter : ℕ → Bool

@@ -7,10 +7,11 @@ ghost use mathlib.Core.Path.{_≡_};
 ghost use mathlib.Core.Bool.{false};
 ghost use Prim.Native.Nat.{_+_, _≤_};
 ghost use lib.ListN.{length, drop};
+ghost use Rattle.text.specs.Bytes.{every};
 ghost use Rattle.text.specs.Escape.{badEscape, resolved};
 ghost use Rattle.text.specs.Promise.{Resolves};
 ghost use Rattle.text.specs.Puts.{Puts};
-ghost use Rattle.text.specs.Step.{isLetter, isEscape};
+ghost use Rattle.text.specs.Step.{isOther, isLetter, isEscape};
 
 // Whether this is the letter of one of the five escapes.
 fn is_letter(b: u8) -> bool
@@ -43,8 +44,21 @@ fn is_escape(q: Marks, t: &[u8], i: usize) -> bool
     is_letter(t[i]) & (t[i + 1] == q.escape)
 }
 
-// Whether some \ of the text begins none of the five escapes.
-pub fn bad_escape(q: Marks, t: &[u8]) -> bool
+// Whether a text has no such byte. No early way out, so that many bytes are tested at once.
+fn is_free(t: &[u8], mark: u8) -> bool
+    ensures { λ r. ⌜ r ≡ every (isOther mark) (now (t .entry)) ⌝ }
+{
+    let mut ok = true;
+    let mut i = 0;
+    while i < t.len() {
+        ok = ok & (t[i] != mark);
+        i += 1;
+    }
+    ok
+}
+
+// Whether some \ of the text begins none of the five escapes, escape by escape.
+fn some_bad(q: Marks, t: &[u8]) -> bool
     ensures { λ r. ⌜ r ≡ badEscape q (now (t .entry)) ⌝ }
 {
     let mut i = 0;
@@ -59,6 +73,16 @@ pub fn bad_escape(q: Marks, t: &[u8]) -> bool
         }
     }
     false
+}
+
+// The same: most texts have no \ at all.
+pub fn bad_escape(q: Marks, t: &[u8]) -> bool
+    ensures { λ r. ⌜ r ≡ badEscape q (now (t .entry)) ⌝ }
+{
+    if is_free(t, q.escape) {
+        return false;
+    }
+    some_bad(q, t)
 }
 
 // How many bytes the resolved text has: with no bad escape, each \ that is read begins three bytes that stand for one.

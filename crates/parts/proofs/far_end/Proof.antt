@@ -18,7 +18,7 @@ loop-holds : tie.Need-loop-holds Inv-loop μ-loop
 loop-holds c = (search needs, refl)
 
 returns : tie.Need-returns Inv-loop μ-loop
-returns c = c .piece-end .ensures ∙ c .before .before .before .before .loop .inv .1
+returns c = c .near-end .ensures ∙ c .before .before .before .before .loop .inv .1
 
 loop-again : tie.Need-loop-again Inv-loop μ-loop
 loop-again c =
@@ -27,7 +27,7 @@ loop-again c =
     (search needs, omega (arith, at .loop .inv .1, h .sixteen-have .ensures (c .if1 .left)))
 
 returns-2 : tie.Need-returns-2 Inv-loop μ-loop
-returns-2 c = c .piece-end2 .ensures ∙ c .before .before .loop .inv .1
+returns-2 c = c .last-end .ensures ∙ c .before .before .loop .inv .1
 
 pub far-end-spec : {M : Type 1} → statement M
 far-end-spec =

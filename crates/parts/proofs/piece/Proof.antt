@@ -23,7 +23,7 @@ returns : tie.Need-returns Inv-loop μ-loop
 returns c = rw (c .if1 .taken)
 
 loop-holds : tie.Need-loop-holds Inv-loop μ-loop
-loop-holds c = (search needs, (c .piece-end .ensures, sought-first _ _ _ (c .before .if1 .left)))
+loop-holds c = (search needs, (c .near-end .ensures, sought-first _ _ _ (c .before .if1 .left)))
 
 returns-2 : tie.Need-returns-2 Inv-loop μ-loop
 returns-2 c =
@@ -38,7 +38,7 @@ loop-again c =
     let a = at .before .before .before .before .args in (
       search needs,
       (
-        c .piece-end2 .ensures,
+        c .near-end2 .ensures,
         sought-on (a .sep) (a .t .now) _ (at .loop .from) (at .loop .to) (at .loop .inv .0) (at .loop .inv .1 .0)
             (at .loop .left) (c .before .before .loop-test .taken) (c .before .if2 .left) (at .loop .inv .1 .1),
       ),

@@ -27,7 +27,7 @@ loop-again : tie.Need-loop-again Inv-loop μ-loop
 loop-again c =
     let at = c .before .before .before in
     let a = at .before .before .args in (
-      cursor-on (a .sep) (a .t .now) (at .loop .number) (at .loop .start) (at .loop .end) (c .piece-end .result) (at .loop .inv .0) (c .before .if1 .left) (c .piece-end .ensures),
+      cursor-on (a .sep) (a .t .now) (at .loop .number) (at .loop .start) (at .loop .end) (c .near-end .result) (at .loop .inv .0) (c .before .if1 .left) (c .near-end .ensures),
       search needs,
     )
 

@@ -8,7 +8,7 @@ use Rattle.parts.proofs.cursor.first_piece.Tie as tie
 returns : tie.Need-returns
 returns c =
     let a = c .before .before .args in
-    (cursor-first (a .sep) (a .t .now) (c .piece-end .result) (c .piece-end .ensures), refl)
+    (cursor-first (a .sep) (a .t .now) (c .near-end .result) (c .near-end .ensures), refl)
 
 pub first-piece-spec : {M : Type 1} → statement M
 first-piece-spec = tie.close (tie.spec (λ c κs. search needs) returns)

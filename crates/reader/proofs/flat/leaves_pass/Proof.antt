@@ -1,14 +1,16 @@
 -- `leaves_pass`: nothing is broken before the row where the loop stands.
 use mathlib.Core.Path.{_≡_, refl, sym, ap, _∙_}
 use mathlib.Core.Bool.{true, _&&_}
+use mathlib.Core.Logic.{⊎-elim}
 use Prim.Native.Nat.{_+_, _-_}
 use native.Mathlib.Omega.{arith}
 use borrow.Author.Needs.{needs}
-use borrow.Author.Tests.{eqb-true}
+use borrow.Author.Tests.{eqb-true, not-false}
 use lib.Dec.{eqb}
 use Rattle.reader.specs.Place.{place}
 use Rattle.reader.specs.Judged.{passedOnce}
 use Rattle.reader.proofs.Breaks.{told-none}
+use Rattle.text.specs.Bytes.{within}
 use Rattle.text.proofs.Tests.{not-true, both}
 use Rattle.parts.proofs.Moving.{cursor-inside}
 use Rattle.reader.proofs.LeafByLeaf.{Reading, reading-first, reading-number, reading-reason, reading-missing, reading-none}
@@ -75,9 +77,14 @@ sub-leaf c = cursor-inside _ _ _ (c .advance .ensures .0) .0
 part-leaf-end : tie.Need-part-leaf-end Inv-loop μ-loop
 part-leaf-end c = cursor-inside _ _ _ (c .advance .ensures .0) .1
 
+takes-any-requires : tie.Need-takes-any-requires Inv-loop μ-loop
+takes-any-requires c κs =
+    let i = c .before .before .before .before .before .before .before .before in
+    omega (arith, i .before .loop .inv .inside, i .loop-test .taken)
+
 leaf-reason-requires : tie.Need-leaf-reason-requires Inv-loop μ-loop
 leaf-reason-requires c κs =
-    let v = c .before in
+    let v = c .before .before .before in
     let n = v .before in
     let i = n .before .before .before .before .before .before in
     let l = i .before in
@@ -96,13 +103,20 @@ loop-less c = omega (arith, c .before .before .before .before .before .before .b
 
 loop-again : tie.Need-loop-again Inv-loop μ-loop
 loop-again c =
-    let r = c .before in
-    let v = r .before .before in
+    let k = c .before in
+    let v = k .before .before in
     let n = v .before in
     let i = n .before .before .before .before .before .before in
     let l = i .before in
     let o = l .before .before .before .before in
-    flat-on (l .loop .inv) (i .loop-test .taken) (o .pre .1) (n .if2 .left) (v .advance .ensures) (r .leaf-reason .ensures) (c .if3 .left)
+    let x = within (v .advance .result .start) (v .advance .result .end) (o .args .s .now) in
+    ⊎-elim
+    (λ w. flat-on (l .loop .inv) (i .loop-test .taken) (o .pre .1) (n .if2 .left) (v .advance .ensures) (w .1 .ensures) (w .2 .left))
+    (λ w.
+    flat-on (l .loop .inv) (i .loop-test .taken) (o .pre .1) (n .if2 .left) (v .advance .ensures) {r = 0}
+    (k .takes-any .ensures (not-false _ (w .left)) (o .args .q) x refl (flat-good (l .loop .inv) (i .loop-test .taken) (o .pre .1) (n .if2 .left) (v .advance .ensures)))
+    refl)
+    (c .if3 .came)
 
 returns-4 : tie.Need-returns-4 Inv-loop μ-loop
 returns-4 c = λ e. rw e at (reading-none (c .before .loop .inv) (c .loop-test .left))
@@ -130,6 +144,7 @@ leaves-pass-spec =
     sub-leaf
     sub-leaf
     part-leaf-end
+    takes-any-requires
     leaf-reason-requires
     (λ c e. not-true e)
     add-at

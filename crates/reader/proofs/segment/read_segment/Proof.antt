@@ -1,6 +1,7 @@
 -- `read_segment`: the first broken check of a segment's listed fields, told from the row where the loop stands.
 use mathlib.Core.Path.{refl, sym, _∙_}
 use mathlib.Core.Bool.{false}
+use mathlib.Core.Logic.{⊎-elim}
 use Prim.Native.Nat.{_+_, _-_}
 use native.Mathlib.Omega.{arith}
 use lib.ListN.{length, getD}
@@ -14,7 +15,7 @@ use Rattle.profile.proofs.OneField.{field-most}
 use Rattle.profile.specs.Numbers.{tableOf}
 use Rattle.reader.specs.View.{segmentSeen}
 use Rattle.reader.specs.Judged.{leavesOfField, passed}
-use Rattle.reader.proofs.FieldLeaves.{lists-itself}
+use Rattle.reader.proofs.FieldLeaves.{lists-own, lists-itself}
 use Rattle.reader.proofs.FieldText.{field-at}
 use Rattle.reader.proofs.FlatField.{flat-within}
 use Rattle.reader.proofs.FieldChecks.{usage-none, judged-filled}
@@ -146,9 +147,29 @@ part-x-end c =
     let a = f .before .before .before .before .args in
     omega (arith, cursor-inside (a .q .field) (within (f .fields-start .result) (length (a .s .now)) (a .s .now)) (v .advance .result) (v .advance .ensures .0))
 
+add-if4 : tie.Need-add-if4 Inv-loop μ-loop
+add-if4 c =
+    let i = c .before .before .before .before .before in
+    let l = i .before in
+    let o = l .before .before .before .before .before .before .before .before .before in
+    omega (arith, i .loop-test .taken, l .loop .inv .left .order, l .loop .inv .left .inside, o .good)
+
+mul-if4 : tie.Need-mul-if4 Inv-loop μ-loop
+mul-if4 c =
+    let i = c .before .before .before .before .before in
+    let l = i .before in
+    let o = l .before .before .before .before .before .before .before .before .before in
+    omega (arith, i .loop-test .taken, l .loop .inv .left .order, l .loop .inv .left .inside, o .good)
+
+shared-slice-read-if4 : tie.Need-shared-slice-read-if4 Inv-loop μ-loop
+shared-slice-read-if4 c =
+    let i = c .before .before .before .before .before .before in
+    let l = i .before in
+    omega (arith, i .loop-test .taken, l .loop .inv .left .order, l .loop .inv .left .inside)
+
 leaf-rows-requires : tie.Need-leaf-rows-requires Inv-loop μ-loop
 leaf-rows-requires c κs =
-    let v = c .before .before in
+    let v = c .before .before .before .before in
     let d = v .before .before in
     let i = d .before in
     let l = i .before in
@@ -161,7 +182,7 @@ leaf-rows-requires c κs =
 
 flat-passes-requires : tie.Need-flat-passes-requires Inv-loop μ-loop
 flat-passes-requires c κs =
-    let v = c .before .before .before in
+    let v = c .before .before .before .before in
     let d = v .before .before in
     let i = d .before in
     let l = i .before in
@@ -170,14 +191,17 @@ flat-passes-requires c κs =
     let u = f .before in
     let o = u .before .before .before in
     let a = o .args in
-    let x = within (f .fields-start .result) (length (a .s .now)) (a .s .now) in (
-      lists-itself (a .t .now) (c .leaf-rows .result) (leavesOfField (a .q) (a .t .now) (a .s .now) (l .loop .at) (d .field-end .result)) (c .leaf-rows .ensures),
+    let x = within (f .fields-start .result) (length (a .s .now)) (a .s .now) in
+    let e = d .field-end .result in
+    let is = on-field (a .t .now) (a .k) (l .loop .at) (u .rows-under .result .end) e (l .loop .inv .left) (i .loop-test .taken) (d .field-end .ensures) in (
+      lists-itself (a .t .now) (c .if4 .leaves) (leavesOfField (a .q) (a .t .now) (a .s .now) (l .loop .at) e)
+          (⊎-elim (λ w. rw (w .2) (w .1 .ensures)) (λ w. rw (w .1) (lists-own (a .q) (a .t .now) (a .s .now) (a .k) (l .loop .at) e is (w .0 .left))) (c .if4 .came)),
       λ e. flat-within (a .q) (v .advance .result .start) (v .advance .result .end) x (sym (b .before .is-flat .ensures) ∙ e),
     )
 
 judge-field-requires : tie.Need-judge-field-requires Inv-loop μ-loop
 judge-field-requires c κs =
-    let v = c .before .before .before .before .before in
+    let v = c .before .before .before .before .before .before in
     let d = v .before .before in
     let i = d .before in
     let l = i .before in
@@ -200,7 +224,7 @@ judge-field-requires c κs =
 returns-2 : tie.Need-returns-2 Inv-loop μ-loop
 returns-2 c =
     let j = c .before .before in
-    let d = j .before .before .before .before .before .before .before .before in
+    let d = j .before .before .before .before .before .before .before .before .before in
     let i = d .before in
     let l = i .before in
     let b = l .before .before in
@@ -210,7 +234,7 @@ returns-2 c =
     let a = o .args in
     let x = within (f .fields-start .result) (length (a .s .now)) (a .s .now) in
     reading-found (a .t .now) (a .q) (a .s .now) (a .k) (u .rows-under .result .end) x (l .loop .cursor) (l .loop .at) (d .field-end .result)
-    (l .loop .inv) (i .loop-test .taken) (d .field-end .ensures) (j .judge-field .result) (j .judge-field .ensures) (c .if5 .taken)
+    (l .loop .inv) (i .loop-test .taken) (d .field-end .ensures) (j .judge-field .result) (j .judge-field .ensures) (c .if6 .taken)
 
 loop-less : tie.Need-loop-less Inv-loop μ-loop
 loop-less c =
@@ -265,7 +289,7 @@ loop-again-2 c =
 
 loop-less-3 : tie.Need-loop-less-3 Inv-loop μ-loop
 loop-less-3 c =
-    let d = c .before .before .before .before .before .before .before .before .before .before in
+    let d = c .before .before .before .before .before .before .before .before .before .before .before in
     let i = d .before in
     let l = i .before in
     let u = l .before .before .before .before .before .before in
@@ -275,7 +299,7 @@ loop-less-3 c =
 loop-again-3 : tie.Need-loop-again-3 Inv-loop μ-loop
 loop-again-3 c =
     let j = c .before .before in
-    let v = j .before .before .before .before .before .before in
+    let v = j .before .before .before .before .before .before .before in
     let d = v .before .before in
     let i = d .before in
     let l = i .before in
@@ -286,12 +310,12 @@ loop-again-3 c =
     let a = o .args in
     let x = within (f .fields-start .result) (length (a .s .now)) (a .s .now) in
     reading-on (a .t .now) (a .q) (a .s .now) (a .k) (u .rows-under .result .end) x (l .loop .cursor) (l .loop .at) (d .field-end .result)
-    (l .loop .inv) (i .loop-test .taken) (d .field-end .ensures) (j .judge-field .result) (j .judge-field .ensures) (c .if5 .left)
+    (l .loop .inv) (i .loop-test .taken) (d .field-end .ensures) (j .judge-field .result) (j .judge-field .ensures) (c .if6 .left)
     (v .advance .result) (b .fields-before .result) (b .fields-before .ensures) (v .advance .ensures .0) (v .advance .ensures .1)
 
 loop-less-4 : tie.Need-loop-less-4 Inv-loop μ-loop
 loop-less-4 c =
-    let d = c .before .before .before .before .before .before .before in
+    let d = c .before .before .before .before .before .before .before .before in
     let i = d .before in
     let l = i .before in
     let u = l .before .before .before .before .before .before in
@@ -302,7 +326,7 @@ loop-again-4 : tie.Need-loop-again-4 Inv-loop μ-loop
 loop-again-4 c =
     let p = c .before in
     let r = p .before in
-    let v = r .before .before .before in
+    let v = r .before .before .before .before in
     let d = v .before .before in
     let i = d .before in
     let l = i .before in
@@ -322,8 +346,9 @@ loop-again-4 c =
     (f .fields-start .ensures) (b .fields-before .ensures) (v .advance .ensures .0) (v .advance .ensures .1) in
     reading-on t (a .q) (a .s .now) (a .k) (u .rows-under .result .end) x (l .loop .cursor) (l .loop .at) e (l .loop .inv) (i .loop-test .taken) (d .field-end .ensures)
     (record { reason = 0; field = getD t (l .loop .at + 1) 0; repetition = 1; component = 0; subcomponent = 0 })
-    (judged-filled (a .q) t (a .s .now) (a .k) (l .loop .at) e (o .pre .1) m (within (v .advance .result .start) (v .advance .result .end) x) y (r .leaf-rows .result) (r .leaf-rows .ensures) passed
-    (p .flat-passes .ensures (not-false _ (c .if4 .left)) (getD t (l .loop .at + 5) 0) (field-most t (a .k) (l .loop .at) e is)) refl refl)
+    (judged-filled (a .q) t (a .s .now) (a .k) (l .loop .at) e (o .pre .1) m (within (v .advance .result .start) (v .advance .result .end) x) y (r .if4 .leaves)
+    (⊎-elim (λ w. rw (w .2) (w .1 .ensures)) (λ w. rw (w .1) (lists-own (a .q) t (a .s .now) (a .k) (l .loop .at) e is (w .0 .left))) (r .if4 .came)) passed
+    (p .flat-passes .ensures (not-false _ (c .if5 .left)) (getD t (l .loop .at + 5) 0) (field-most t (a .k) (l .loop .at) e is)) refl refl)
     refl (v .advance .result) (b .fields-before .result) (b .fields-before .ensures) (v .advance .ensures .0) (v .advance .ensures .1)
 
 returns-3 : tie.Need-returns-3 Inv-loop μ-loop
@@ -371,6 +396,9 @@ read-segment-spec =
     (λ c. search needs)
     (λ c. search needs)
     part-x-end
+    add-if4
+    mul-if4
+    shared-slice-read-if4
     leaf-rows-requires
     flat-passes-requires
     judge-field-requires
