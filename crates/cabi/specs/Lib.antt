@@ -1,0 +1,3 @@
+pub mod Told
+pub mod Promise
+pub mod Inner

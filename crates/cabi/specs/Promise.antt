@@ -1,0 +1,47 @@
+-- What the exported functions promise.
+use Prim.Native.Nat.{ℕ}
+use mathlib.Core.Path.{_≡_}
+use mathlib.Core.List.{List}
+use lib.ListN.{length}
+use Rattle.text.specs.Bytes.{Text}
+use Rattle.text.specs.Answer.{Answer, bufferAfter, reported}
+use Rattle.text.specs.Marks.{usual}
+use Rattle.text.specs.Escape.{resolve}
+use Rattle.profile.specs.Table.{Table}
+use Rattle.reader.specs.LookUp.{lookUp}
+use Rattle.reader.specs.Fault.{judge}
+use Rattle.reply.specs.Reply.{reply}
+use Rattle.slip.specs.Book.{file, bookAfter}
+use Rattle.slip.specs.Read.{readSlip}
+use Rattle.cabi.specs.Told.{status, Tells, verdictNumbers, foundNumbers, asked, sizeNumbers, partNumbers}
+
+-- JUDGING m by a table: ten numbers
+abbrev pub JudgeTells : Table → Text → List ℕ → ℕ → List ℕ → Type 0
+JudgeTells T m before r after = Tells verdictNumbers (judge T m) before r after
+
+-- LOOKING UP a name and five numbers in m: three numbers
+abbrev pub LookUpTells : Text → Text → List ℕ → List ℕ → ℕ → List ℕ → Type 0
+LookUpTells m name n before r after = Tells foundNumbers (lookUp m (asked name n)) before r after
+
+-- A TEXT WRITTEN into a buffer that held `old`: one number tells how many bytes
+pub record Writes (a : Answer Text) (old before : List ℕ) (r : ℕ) (new after : List ℕ) : Type 0 where
+  pub told : Tells sizeNumbers (reported a) before r after
+  pub buffer : new ≡ bufferAfter a old
+
+-- RESOLVING a text into a buffer
+abbrev pub ResolveTells : Text → Text → List ℕ → ℕ → Text → List ℕ → Type 0
+ResolveTells t old before r new after = Writes (resolve usual t (length old)) old before r new after
+
+-- THE REPLY to m, judged by a table, into a buffer
+abbrev pub ReplyTells : Table → Text → Text → Text → Text → List ℕ → ℕ → Text → List ℕ → Type 0
+ReplyTells T m stamp number old before r new after =
+    Writes (reply T m stamp number (length old)) old before r new after
+
+-- FILING group g of m, judged by a table, in slot k of a book that held `before`: the number returned is all that is told
+pub record FileTells (T : Table) (m : Text) (g k : ℕ) (before : Text) (r : ℕ) (after : Text) : Type 0 where
+  pub returned : r ≡ status (file T m g k before)
+  pub book : after ≡ bookAfter (file T m g k before) k before
+
+-- READING a tag of slot k of a book: two numbers
+abbrev pub ReadTells : Text → ℕ → ℕ → List ℕ → ℕ → List ℕ → Type 0
+ReadTells book k tag before r after = Tells partNumbers (readSlip book k tag) before r after
