@@ -1,0 +1,134 @@
+//! The generator as a whole, held against the second program.
+
+use crate::generator::Generator;
+use crate::large;
+use crate::profile::TYPES;
+use crate::round::Round;
+use crate::slips;
+use crate::spelling;
+use crate::table::Table;
+use crate::tour;
+use crate::worked;
+use crate::{frame, leaves, order};
+
+fn judged(message: &[u8]) -> String {
+    let mut line = b"judge".to_vec();
+    spelling::word(message, &mut line);
+    String::from_utf8_lossy(&spelling::answer(&line)).into_owned()
+}
+
+#[test]
+fn worked_messages_are_answered_as_written() {
+    for (message, answer) in worked::messages() {
+        assert_eq!(judged(&message), answer);
+    }
+}
+
+#[test]
+fn the_worked_reply_and_slip_are_made() {
+    let (message, _) = &worked::messages()[1];
+    let mut line = b"reply".to_vec();
+    spelling::word(message, &mut line);
+    line.extend_from_slice(b" =20240305101501 =K1 =.*199;");
+    let reply = "MSH|^~\\&|DEPOT|D1|LABSYS|LAB1|20240305101501||ACK^R01^ACK|K1|P|2.5.1\r\
+                 MSA|AE|C7\rERR||OBX^1^5^1^1^1|102^Data type error^HL70357|E\r";
+    let mut written = format!("written {}", reply.len()).into_bytes();
+    let buffer = [reply.as_bytes(), &b".".repeat(200 - reply.len())].concat();
+    spelling::word(&buffer, &mut written);
+    assert_eq!(spelling::answer(&line), written);
+    let slip = b"\x01\0\x02C7\x02\0\x03A55\x04\0\x02F9\x05\0\x0754089-8\x06\0\x02\0\x01".to_vec();
+    let book = slips::filed(&worked::m().write(), 1, 0, &[b'#'; 1_024]);
+    assert_eq!(book, Some([slip, vec![0; 993]].concat()));
+}
+
+#[test]
+fn good_messages_are_accepted() {
+    let mut generator = Generator::new(3);
+    let refused: Vec<Vec<u8>> =
+        (0..2_000).map(|_| generator.good_message(0).write()).filter(|message| judged(message) != "accepted").collect();
+    for message in refused.iter().take(3) {
+        println!("{}\n{}", judged(message), String::from_utf8_lossy(message).replace('\r', "\n"));
+    }
+    assert!(refused.is_empty(), "{} of 2000", refused.len());
+}
+
+#[test]
+fn additions_leave_most_messages_accepted() {
+    let mut generator = Generator::new(4);
+    let accepted = (0..2_000).filter(|_| judged(&generator.good_message(100).write()) == "accepted").count();
+    assert!(accepted > 1_700, "{} of 2000", accepted);
+}
+
+#[test]
+fn greatest_sizes_are_accepted_or_not_as_told() {
+    for (name, line, accepted) in large::MANY {
+        assert_eq!(judged(&large::many(line, 512)) == "accepted", *accepted, "{}", name);
+        assert_eq!(judged(&large::many(line, 513)), "refused 8", "{}", name);
+    }
+    for (row, shape) in large::LONG.iter().enumerate() {
+        assert_eq!(judged(&large::long(row, 65_535)) == "accepted", shape.4, "{}", shape.0);
+        assert_eq!(judged(&large::long(row, 65_536)), "refused 2", "{}", shape.0);
+    }
+    assert_eq!(judged(&large::notes(65_535)), "accepted");
+}
+
+#[test]
+fn the_tour_starts_from_accepted_messages() {
+    for kind in TYPES {
+        assert_eq!(judged(&tour::full(kind).write()), "accepted", "{}", kind);
+    }
+}
+
+#[test]
+fn every_kind_of_damage_is_reached() {
+    let mut generator = Generator::new(5);
+    for _ in 0..4_000 {
+        generator.message();
+    }
+    let names = leaves::DAMAGES.iter().chain(order::DAMAGES).map(|row| row.0);
+    let names = names.chain(frame::EDITS.iter().chain(frame::DAMAGES).map(|row| row.0));
+    for name in
+        names.chain(["large", "none", "tiny", "noise", "bad frame", "edited", "good", "damaged", "newer sender"])
+    {
+        assert!(generator.made.get(name).copied().unwrap_or(0) >= 10, "{}", name);
+    }
+}
+
+#[test]
+fn every_refusal_and_reason_is_met_often() {
+    let mut generator = Generator::new(6);
+    let mut table = Table::default();
+    while table.calls < 6_000 {
+        for line in generator.bundle().lines() {
+            assert!(table.add(&line, &spelling::answer(&line)), "{}", String::from_utf8_lossy(&line));
+        }
+    }
+    assert!(table.lacking().is_empty(), "{:?}\n{}", table.lacking(), table);
+}
+
+#[test]
+fn a_seed_gives_the_same_calls() {
+    let mut one = Generator::new(9);
+    let mut other = Generator::new(9);
+    for _ in 0..200 {
+        assert_eq!(one.bundle().lines(), other.bundle().lines());
+    }
+}
+
+#[test]
+fn strings_come_back_from_their_spelling() {
+    let mut generator = Generator::new(10);
+    for _ in 0..500 {
+        let message = generator.message();
+        let mut spelled = Vec::new();
+        spelling::string(&message, &mut spelled);
+        assert_eq!(second::calls::unspell(&spelled), Some(message));
+    }
+}
+
+#[test]
+fn rounds_have_pairs_that_striking_altered() {
+    let round = Round::make(&mut Generator::new(11), 2_000);
+    assert!(round.pairs.len() > 300);
+    assert!(round.pairs.iter().filter(|pair| pair.struck).count() > 100);
+}
