@@ -3,6 +3,7 @@ ghost use mathlib.Core.Path.{_≡_};
 ghost use Prim.Native.Nat.{_≤_};
 ghost use Rattle.parts.specs.Span.{IsPiece};
 use crate::near_end;
+use crate::piece_end;
 
 // The piece with that number, from 1. Where there is none it is empty and stands at the text's end.
 pub struct Cursor {
@@ -40,6 +41,39 @@ pub fn advance(t: &[u8], sep: u8, at: Cursor, n: u64) -> Cursor
         }
         start = end + 1;
         end = near_end(t, start, sep);
+        number += 1;
+    }
+    Cursor { number, start, end }
+}
+
+// The same for texts in which separators may stand far apart.
+pub fn first_far(t: &[u8], sep: u8) -> Cursor
+    ensures { λ r. ⌜ IsPiece sep (now (t .entry)) r × (r .number ≡ 1) ⌝ }
+{
+    Cursor {
+        number: 1,
+        start: 0,
+        end: piece_end(t, 0, sep),
+    }
+}
+
+pub fn advance_far(t: &[u8], sep: u8, at: Cursor, n: u64) -> Cursor
+    requires { ⌜ IsPiece sep (now t) at × (at .number ≤ n) ⌝ }
+    ensures { λ r. ⌜ IsPiece sep (now (t .entry)) r × (r .number ≡ n) ⌝ }
+{
+    let mut number = at.number;
+    let mut start = at.start;
+    let mut end = at.end;
+    while number < n {
+        if t.len() <= end {
+            return Cursor {
+                number: n,
+                start: end,
+                end,
+            };
+        }
+        start = end + 1;
+        end = piece_end(t, start, sep);
         number += 1;
     }
     Cursor { number, start, end }

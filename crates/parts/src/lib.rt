@@ -12,6 +12,8 @@ mod cursor;
 
 pub use cursor::Cursor;
 pub use cursor::advance;
+pub use cursor::advance_far;
+pub use cursor::first_far;
 pub use cursor::first_piece;
 use text::Marks;
 

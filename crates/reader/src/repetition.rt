@@ -13,7 +13,7 @@ ghost use Rattle.reader.specs.Fault.{repetitionChecks, firstBroken};
 ghost use Rattle.reader.specs.Judged.{told, ReadsRepetition};
 use crate::rule::leaf_reason;
 use parts::advance;
-use parts::first_piece;
+use parts::first_far;
 use parts::piece;
 use profile::Rows;
 use text::Marks;
@@ -64,7 +64,7 @@ pub fn read_repetition(s: &[u8], q: Marks, t: &[u16], rows: Rows) -> ReadRepetit
         component: 0,
         subcomponent: 0,
     };
-    let mut cursor = first_piece(s, q.component);
+    let mut cursor = first_far(s, q.component);
     let mut at = rows.start;
     let end = rows.end;
     while 11 <= end - at {

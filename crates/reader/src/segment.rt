@@ -6,6 +6,7 @@ ghost use lib.ListN.{length, getD};
 ghost use Rattle.text.specs.Bytes.{pick, within};
 ghost use lib.Dec.{eqb};
 ghost use Rattle.parts.specs.Descent.{part, inField};
+ghost use Rattle.parts.specs.Span.{IsPiece};
 ghost use Rattle.frame.specs.Segments.{field};
 ghost use Rattle.profile.specs.Inner.{Lists, IsField, leavesNamed, ruleAt};
 ghost use Rattle.profile.specs.Table.{C};
@@ -17,7 +18,9 @@ ghost use Rattle.reader.specs.Judged.{ReadsSegment, HasNumber, fieldsSee
 use crate::field::read_field;
 use crate::flat::flat_passes;
 use crate::flat::is_flat;
+use parts::Cursor;
 use parts::advance;
+use parts::advance_far;
 use parts::first_piece;
 use parts::piece_end;
 use profile::Rows;
@@ -195,6 +198,17 @@ fn judge_field(s: &[u8], text: &[u8], q: Marks, t: &[u16], k: u16, at: usize, en
     }
 }
 
+// On to a field: most segments are short, but in a long one a field may be long.
+fn go_to(fields: &[u8], sep: u8, at: Cursor, n: u64) -> Cursor
+    requires { ⌜ IsPiece sep (now fields) at × (at .number ≤ n) ⌝ }
+    ensures { λ r. ⌜ IsPiece sep (now (fields .entry)) r × (r .number ≡ n) ⌝ }
+{
+    if 256 <= fields.len() {
+        return advance_far(fields, sep, at, n);
+    }
+    advance(fields, sep, at, n)
+}
+
 // Reads a segment's listed fields, rising, each byte passed once on the way from field to field. A field of no bytes has
 // no repetition: all that it can break is to be missing.
 pub fn read_segment(s: &[u8], q: Marks, t: &[u16], k: u16) -> Finding
@@ -212,7 +226,7 @@ pub fn read_segment(s: &[u8], q: Marks, t: &[u16], k: u16) -> Finding
     while 11 <= last - at {
         let end = field_end(t, at, last);
         let number = t[at + 1] as u64;
-        cursor = advance(fields, q.field, cursor, number - before);
+        cursor = go_to(fields, q.field, cursor, number - before);
         let from = cursor.start;
         let to = cursor.end;
         if from == to {

@@ -15,11 +15,11 @@ Inv-loop s q t found₀ cursor₀ at₀ end found cursor at = Reading s q t at�
 abbrev μ-loop : tie.MeasureT-loop
 μ-loop s q t found₀ cursor₀ at₀ end found cursor at = end - at
 
-first-piece-requires : tie.Need-first-piece-requires Inv-loop μ-loop
-first-piece-requires c κs = search needs
+first-far-requires : tie.Need-first-far-requires Inv-loop μ-loop
+first-far-requires c κs = search needs
 
 loop-holds : tie.Need-loop-holds Inv-loop μ-loop
-loop-holds c = reading-first (c .before .before .before .pre) (c .first-piece .ensures)
+loop-holds c = reading-first (c .before .before .before .pre) (c .first-far .ensures)
 
 sub-loop : tie.Need-sub-loop Inv-loop μ-loop
 sub-loop c = c .loop .inv .order
@@ -131,7 +131,7 @@ read-repetition-spec =
     (tie.spec
     Inv-loop
     μ-loop
-    first-piece-requires
+    first-far-requires
     loop-holds
     sub-loop
     add-number

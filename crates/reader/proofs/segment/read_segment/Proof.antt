@@ -67,8 +67,8 @@ shared-slice-read-number c =
 cast-number : tie.Need-cast-number Inv-loop μ-loop
 cast-number c = omega (arith, c .shared-slice-known3 .given (c .before .before .before .loop .at + 1))
 
-sub-advance : tie.Need-sub-advance Inv-loop μ-loop
-sub-advance c =
+sub-go-to : tie.Need-sub-go-to Inv-loop μ-loop
+sub-go-to c =
     let d = c .before in
     let i = d .before in
     let l = i .before in
@@ -81,8 +81,8 @@ sub-advance c =
     low-number (a .t .now) (a .q) (a .s .now) (a .k) (u .rows-under .result .end) x (l .loop .cursor) (l .loop .at) (d .field-end .result)
     (l .loop .inv) (i .loop-test .taken) (d .field-end .ensures) (b .fields-before .result) (b .fields-before .ensures) .0
 
-advance-requires : tie.Need-advance-requires Inv-loop μ-loop
-advance-requires c κs =
+go-to-requires : tie.Need-go-to-requires Inv-loop μ-loop
+go-to-requires c κs =
     let d = c .before in
     let i = d .before in
     let l = i .before in
@@ -136,7 +136,7 @@ returns c =
     let a = o .args in
     rw (c .at-repetition .ensures)
     (none-found (a .t .now) (a .q) (a .s .now) (a .k) (u .rows-under .result .end) (f .fields-start .result) (b .fields-before .result) (l .loop .cursor) (l .loop .at) (d .field-end .result)
-    (l .loop .inv) (i .loop-test .taken) (d .field-end .ensures) (o .pre .1) (f .fields-start .ensures) (b .fields-before .ensures) (v .advance .result) (v .advance .ensures .0) (v .advance .ensures .1)
+    (l .loop .inv) (i .loop-test .taken) (d .field-end .ensures) (o .pre .1) (f .fields-start .ensures) (b .fields-before .ensures) (v .go-to .result) (v .go-to .ensures .0) (v .go-to .ensures .1)
     (h .if1 .taken) (g .is-required .result) (g .is-required .ensures) (y .if3 .taken))
 
 part-x-end : tie.Need-part-x-end Inv-loop μ-loop
@@ -145,7 +145,7 @@ part-x-end c =
     let l = v .before .before .before .before in
     let f = l .before .before .before .before .before in
     let a = f .before .before .before .before .args in
-    omega (arith, cursor-inside (a .q .field) (within (f .fields-start .result) (length (a .s .now)) (a .s .now)) (v .advance .result) (v .advance .ensures .0))
+    omega (arith, cursor-inside (a .q .field) (within (f .fields-start .result) (length (a .s .now)) (a .s .now)) (v .go-to .result) (v .go-to .ensures .0))
 
 add-if4 : tie.Need-add-if4 Inv-loop μ-loop
 add-if4 c =
@@ -196,7 +196,7 @@ flat-passes-requires c κs =
     let is = on-field (a .t .now) (a .k) (l .loop .at) (u .rows-under .result .end) e (l .loop .inv .left) (i .loop-test .taken) (d .field-end .ensures) in (
       lists-itself (a .t .now) (c .if4 .leaves) (leavesOfField (a .q) (a .t .now) (a .s .now) (l .loop .at) e)
           (⊎-elim (λ w. rw (w .2) (w .1 .ensures)) (λ w. rw (w .1) (lists-own (a .q) (a .t .now) (a .s .now) (a .k) (l .loop .at) e is (w .0 .left))) (c .if4 .came)),
-      λ e. flat-within (a .q) (v .advance .result .start) (v .advance .result .end) x (sym (b .before .is-flat .ensures) ∙ e),
+      λ e. flat-within (a .q) (v .go-to .result .start) (v .go-to .result .end) x (sym (b .before .is-flat .ensures) ∙ e),
     )
 
 judge-field-requires : tie.Need-judge-field-requires Inv-loop μ-loop
@@ -216,8 +216,8 @@ judge-field-requires c κs =
       o .pre,
       (
         on-field (a .t .now) (a .k) (l .loop .at) (u .rows-under .result .end) (d .field-end .result) w (i .loop-test .taken) (d .field-end .ensures),
-        field-at (a .s .now) (a .k) (o .pre .1) (getD (a .t .now) (l .loop .at + 1) 0) m (a .q) (f .fields-start .result) (b .fields-before .result) (v .advance .result)
-            (f .fields-start .ensures) (b .fields-before .ensures) (v .advance .ensures .0) (v .advance .ensures .1),
+        field-at (a .s .now) (a .k) (o .pre .1) (getD (a .t .now) (l .loop .at + 1) 0) m (a .q) (f .fields-start .result) (b .fields-before .result) (v .go-to .result)
+            (f .fields-start .ensures) (b .fields-before .ensures) (v .go-to .ensures .0) (v .go-to .ensures .1),
       ),
     )
 
@@ -259,7 +259,7 @@ loop-again c =
     let o = u .before .before .before in
     let a = o .args in
     none-on (a .t .now) (a .q) (a .s .now) (a .k) (u .rows-under .result .end) (f .fields-start .result) (b .fields-before .result) (l .loop .cursor) (l .loop .at) (d .field-end .result)
-    (l .loop .inv) (i .loop-test .taken) (d .field-end .ensures) (o .pre .1) (f .fields-start .ensures) (b .fields-before .ensures) (v .advance .result) (v .advance .ensures .0) (v .advance .ensures .1)
+    (l .loop .inv) (i .loop-test .taken) (d .field-end .ensures) (o .pre .1) (f .fields-start .ensures) (b .fields-before .ensures) (v .go-to .result) (v .go-to .ensures .0) (v .go-to .ensures .1)
     (h .if1 .taken) (g .is-required .result) (g .is-required .ensures) (c .if3 .left)
 
 loop-less-2 : tie.Need-loop-less-2 Inv-loop μ-loop
@@ -284,7 +284,7 @@ loop-again-2 c =
     let o = u .before .before .before in
     let a = o .args in
     none-on (a .t .now) (a .q) (a .s .now) (a .k) (u .rows-under .result .end) (f .fields-start .result) (b .fields-before .result) (l .loop .cursor) (l .loop .at) (d .field-end .result)
-    (l .loop .inv) (i .loop-test .taken) (d .field-end .ensures) (o .pre .1) (f .fields-start .ensures) (b .fields-before .ensures) (v .advance .result) (v .advance .ensures .0) (v .advance .ensures .1)
+    (l .loop .inv) (i .loop-test .taken) (d .field-end .ensures) (o .pre .1) (f .fields-start .ensures) (b .fields-before .ensures) (v .go-to .result) (v .go-to .ensures .0) (v .go-to .ensures .1)
     (h .if1 .taken) false (usage-none (getD (a .t .now) (l .loop .at + 4) 0) (segmentSeen (tableOf (a .t .now)) (a .q) (a .s .now) .fields) (c .if2 .left)) refl
 
 loop-less-3 : tie.Need-loop-less-3 Inv-loop μ-loop
@@ -311,7 +311,7 @@ loop-again-3 c =
     let x = within (f .fields-start .result) (length (a .s .now)) (a .s .now) in
     reading-on (a .t .now) (a .q) (a .s .now) (a .k) (u .rows-under .result .end) x (l .loop .cursor) (l .loop .at) (d .field-end .result)
     (l .loop .inv) (i .loop-test .taken) (d .field-end .ensures) (j .judge-field .result) (j .judge-field .ensures) (c .if6 .left)
-    (v .advance .result) (b .fields-before .result) (b .fields-before .ensures) (v .advance .ensures .0) (v .advance .ensures .1)
+    (v .go-to .result) (b .fields-before .result) (b .fields-before .ensures) (v .go-to .ensures .0) (v .go-to .ensures .1)
 
 loop-less-4 : tie.Need-loop-less-4 Inv-loop μ-loop
 loop-less-4 c =
@@ -342,14 +342,14 @@ loop-again-4 c =
     let m = on-number t (a .k) (l .loop .at) (u .rows-under .result .end) e w (i .loop-test .taken) (d .field-end .ensures) in
     let is = on-field t (a .k) (l .loop .at) (u .rows-under .result .end) e w (i .loop-test .taken) (d .field-end .ensures) in
     let y =
-    field-at (a .s .now) (a .k) (o .pre .1) (getD t (l .loop .at + 1) 0) m (a .q) (f .fields-start .result) (b .fields-before .result) (v .advance .result)
-    (f .fields-start .ensures) (b .fields-before .ensures) (v .advance .ensures .0) (v .advance .ensures .1) in
+    field-at (a .s .now) (a .k) (o .pre .1) (getD t (l .loop .at + 1) 0) m (a .q) (f .fields-start .result) (b .fields-before .result) (v .go-to .result)
+    (f .fields-start .ensures) (b .fields-before .ensures) (v .go-to .ensures .0) (v .go-to .ensures .1) in
     reading-on t (a .q) (a .s .now) (a .k) (u .rows-under .result .end) x (l .loop .cursor) (l .loop .at) e (l .loop .inv) (i .loop-test .taken) (d .field-end .ensures)
     (record { reason = 0; field = getD t (l .loop .at + 1) 0; repetition = 1; component = 0; subcomponent = 0 })
-    (judged-filled (a .q) t (a .s .now) (a .k) (l .loop .at) e (o .pre .1) m (within (v .advance .result .start) (v .advance .result .end) x) y (r .if4 .leaves)
+    (judged-filled (a .q) t (a .s .now) (a .k) (l .loop .at) e (o .pre .1) m (within (v .go-to .result .start) (v .go-to .result .end) x) y (r .if4 .leaves)
     (⊎-elim (λ w. rw (w .2) (w .1 .ensures)) (λ w. rw (w .1) (lists-own (a .q) t (a .s .now) (a .k) (l .loop .at) e is (w .0 .left))) (r .if4 .came)) passed
     (p .flat-passes .ensures (not-false _ (c .if5 .left)) (getD t (l .loop .at + 5) 0) (field-most t (a .k) (l .loop .at) e is)) refl refl)
-    refl (v .advance .result) (b .fields-before .result) (b .fields-before .ensures) (v .advance .ensures .0) (v .advance .ensures .1)
+    refl (v .go-to .result) (b .fields-before .result) (b .fields-before .ensures) (v .go-to .ensures .0) (v .go-to .ensures .1)
 
 returns-3 : tie.Need-returns-3 Inv-loop μ-loop
 returns-3 c =
@@ -385,8 +385,8 @@ read-segment-spec =
     mul-number
     shared-slice-read-number
     cast-number
-    sub-advance
-    advance-requires
+    sub-go-to
+    go-to-requires
     add-usage
     mul-usage
     shared-slice-read-usage
