@@ -1,0 +1,92 @@
+//! Calls an entry so many times on a message from standard input, and prints what came of it and how long it took.
+//!
+//! Nothing but the calls depends on the number of times, so what three calls take more than two is what a call takes.
+
+#![forbid(unsafe_code)]
+
+use std::env;
+use std::io::{self, Read};
+use std::process::ExitCode;
+use std::sync::atomic::{AtomicUsize, Ordering};
+use std::time::Instant;
+
+mod ours;
+mod theirs;
+
+const USAGE: &str = "\
+usage: bench ours|second frame|judge|look|reply|file TIMES < MESSAGE
+       bench sum bytes TIMES < MESSAGE
+";
+
+pub const STAMP: &[u8] = b"20240305101501";
+pub const NUMBER: &[u8] = b"K1";
+
+/// Where the message begins: 0, but loaded anew before each call, so that no two calls are known to be equal.
+static START: AtomicUsize = AtomicUsize::new(0);
+
+/// What the calls are made with.
+pub struct Lent {
+    /// The last OBX: its occurrence is what a look-up asks for.
+    pub last: u64,
+    /// The reply is written here.
+    pub buffer: Vec<u8>,
+    /// The slip is filed here.
+    pub book: Vec<u8>,
+}
+
+/// An entry: its answer as a number.
+type Entry = fn(&[u8], &mut Lent) -> u64;
+
+/// The plain sum of the bytes.
+#[inline(never)]
+fn sum(message: &[u8], _: &mut Lent) -> u64 {
+    message.iter().map(|&byte| u64::from(byte)).sum()
+}
+
+fn entry(who: &str, what: &str) -> Option<Entry> {
+    match (who, what) {
+        ("sum", "bytes") => Some(sum),
+        ("ours", _) => ours::entry(what),
+        ("second", _) => theirs::entry(what),
+        _ => None,
+    }
+}
+
+fn run(entry: Entry, times: u64, message: &[u8]) {
+    let observations = message.split(|&byte| byte == b'\r').filter(|segment| segment.starts_with(b"OBX"));
+    let mut lent = Lent {
+        last: observations.count() as u64,
+        buffer: vec![0; 1200],
+        book: vec![0; 1024],
+    };
+    let mut answers: u64 = 0;
+    let begin = Instant::now();
+    for _ in 0..times {
+        answers = answers.wrapping_add(entry(&message[START.load(Ordering::Relaxed)..], &mut lent));
+    }
+    let taken = begin.elapsed().as_nanos();
+    println!("answers {} nanoseconds {}", answers, taken);
+}
+
+fn main() -> ExitCode {
+    let words: Vec<String> = env::args().skip(1).collect();
+    let asked = match words.as_slice() {
+        [who, what, times] => entry(who, what).zip(times.parse().ok()),
+        _ => None,
+    };
+    match asked {
+        Some((entry, times)) => {
+            let mut message = Vec::new();
+            if let Err(error) = io::stdin().lock().read_to_end(&mut message) {
+                eprintln!("bench: {}", error);
+                return ExitCode::FAILURE;
+            }
+            run(entry, times, &message);
+            ExitCode::SUCCESS
+        }
+        None => {
+            eprint!("{}", USAGE);
+            ExitCode::from(2)
+        }
+    }
+}
