@@ -40,7 +40,7 @@ static void *file(void *unused)
     return unused;
 }
 
-/* the bytes of its stack that a thread touches */
+/* the bytes of its stack that a thread touches, and 0 where that cannot be found out */
 static size_t touched(void *(*work)(void *))
 {
     uint8_t *stack = mmap(NULL, STACK, PROT_READ | PROT_WRITE, MAP_PRIVATE | MAP_ANONYMOUS, -1, 0);
@@ -59,30 +59,56 @@ static size_t touched(void *(*work)(void *))
     return STACK - clean;
 }
 
+/* a message of 512 segments: header, patient, the front, so many times the middle, the back */
+struct deep {
+    const char *name, *front, *middle, *back;
+    int times;
+};
+
+#define HEADER "MSH|^~\\&|LABSYS|LAB1|DEPOT|D1|20240305101500||ORU^R01^ORU_R01|C7|P|2.5.1\rPID|1||A55||LANE^JANE||20240301\r"
+#define GROUP "OBR|1||F9|54089-8^Panel^LN|||20240304\r"
+
+static const struct deep deeps[] = {
+    {"509 notes", GROUP, "NTE|1||a~b&c\\E\\\r", "", 509},
+    {"509 observations", GROUP, "OBX|1|NM|45222-7^C4-DC^LN||3.16|umol/L|||||F\r", "", 509},
+    {"510 groups", "", GROUP, "", 510},
+    {"509 of kin", "", "NK1|1||MTH\r", GROUP, 509},
+    {"255 orders", "", "ORC|RE\r" GROUP, "", 255},
+};
+
 static void add(const char *text)
 {
     memcpy(message + size, text, strlen(text));
     size += strlen(text);
 }
 
+/* prints what a call takes; whether it was answered */
+static int tell(const char *name, void *(*work)(void *), size_t idle)
+{
+    size_t all = touched(work);
+    if (idle == 0 || all < idle || refusal != 0)
+        return 0;
+    printf(" %s %zu bytes", name, all - idle);
+    return 1;
+}
+
 int main(void)
 {
-    static const char *const names[] = {"notes", "observations", "groups"};
-    static const char *const segments[] = {"NTE|1||a~b&c\\E\\\r", "OBX|1|NM|45222-7^C4-DC^LN||3.16|umol/L|||||F\r",
-                                           "OBR|1||F9|54089-8^Panel^LN|||20240304\r"};
     size_t idle = touched(nothing);
-    for (int kind = 0; kind < 3; kind++) {
+    for (size_t kind = 0; kind < sizeof deeps / sizeof deeps[0]; kind++) {
+        const struct deep *d = &deeps[kind];
         size = 0;
-        add("MSH|^~\\&|LABSYS|LAB1|DEPOT|D1|20240305101500||ORU^R01^ORU_R01|C7|P|2.5.1\r");
-        add("PID|1||A55||LANE^JANE||20240301\rOBR|1||F9|54089-8^Panel^LN|||20240304\r");
-        for (int i = 0; i < 509; i++)
-            add(segments[kind]);
-        size_t judged = touched(judge) - idle, replied = touched(reply) - idle, filed = touched(file) - idle;
-        printf("509 %s: judge %zu bytes, reply %zu, file %zu\n", names[kind], judged, replied, filed);
-        if (refusal != 0) {
-            fprintf(stderr, "refused %u\n", refusal);
+        add(HEADER);
+        add(d->front);
+        for (int i = 0; i < d->times; i++)
+            add(d->middle);
+        add(d->back);
+        printf("%s:", d->name);
+        if (!tell("judge", judge, idle) || !tell("reply", reply, idle) || !tell("file", file, idle)) {
+            fprintf(stderr, "\nno answer, or no stack: refusal %u\n", refusal);
             return 1;
         }
+        printf("\n");
     }
     return 0;
 }

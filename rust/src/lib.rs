@@ -5,7 +5,7 @@
 //!
 //! The work is done by a library whose every answer is proved equal to a definition (`docs/ENTRIES.md` in the repository). This crate
 //! hands over slices and turns numbers into types. Any bytes and any numbers may be handed over; a [`Refusal`] leaves what was lent as it
-//! was. A call may take some 100 KB of stack.
+//! was. A call wants 128 KiB of stack.
 //!
 //! ```
 //! use ithwyral::{judge, reply, Verdict, LONGEST_REPLY};

@@ -13,6 +13,8 @@ pub const MOST_STRING_BYTES: usize = 131_072;
 pub const MOST_LINE_BYTES: usize = 1_048_576;
 /// Runs of at least this many equal bytes are printed in the short form.
 const LEAST_RUN: usize = 8;
+/// The digits of the longest number.
+const MOST_DIGITS: usize = 20;
 /// The words of the longest call.
 const MOST_WORDS: usize = 8;
 
@@ -76,10 +78,10 @@ fn asked(words: &[&[u8]]) -> Option<Asked> {
     }
 }
 
-/// A number in decimal digits that fits in 64 bits.
+/// A number in 1 to 20 decimal digits that fits in 64 bits.
 fn number(word: &[u8]) -> Option<u64> {
-    // `parse` would take a plus sign as well.
-    if !word.iter().all(u8::is_ascii_digit) {
+    // `parse` would take a plus sign as well, and any number of zeros in front.
+    if word.len() > MOST_DIGITS || !word.iter().all(u8::is_ascii_digit) {
         return None;
     }
     std::str::from_utf8(word).ok()?.parse().ok()
@@ -202,9 +204,12 @@ pub fn unspell(word: &[u8]) -> Option<Vec<u8>> {
         return None;
     }
     let mut bytes = Vec::with_capacity(rest.len().min(MOST_STRING_BYTES));
+    // A run follows a byte, and no other run.
+    let mut at_run = false;
     while let Some((&first, after)) = rest.split_first() {
         let (byte, times, used) = match (first, after) {
             (b'%', &[high, low, ..]) => (hex(high)? << 4 | hex(low)?, 1, 2),
+            (b'*', _) if at_run => return None,
             (b'*', _) => {
                 let length = after.iter().position(|&byte| byte == b';')?;
                 let times = usize::try_from(number(&after[..length])?).ok()?;
@@ -218,6 +223,7 @@ pub fn unspell(word: &[u8]) -> Option<Vec<u8>> {
         }
         bytes.resize(bytes.len() + times, byte);
         rest = &after[used..];
+        at_run = first == b'*';
     }
     Some(bytes)
 }

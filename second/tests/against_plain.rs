@@ -233,6 +233,7 @@ fn the_judge_agrees_with_a_plain_one() {
 fn striking_changes_no_answer() {
     let mut numbers = Numbers(11);
     let wholes = [m(), rich()];
+    let mut compared = 0;
     for round in 0..8_000 {
         let message = changed(&mut numbers, &wholes[round % 2]);
         let left = match strike(&message) {
@@ -250,7 +251,9 @@ fn striking_changes_no_answer() {
             );
             assert_eq!(book[..], other[..]);
         }
+        compared += 1;
     }
+    assert!(compared > 4_000, "{} compared", compared);
 }
 
 #[test]

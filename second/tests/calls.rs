@@ -36,7 +36,10 @@ fn spelling() {
 
 #[test]
 fn unspelling() {
-    assert_eq!(unspell(b"=a*0;b*2;*1;"), Some(b"abbbb".to_vec()));
+    assert_eq!(unspell(b"=a*0;b*3;"), Some(b"abbbb".to_vec()));
+    assert_eq!(unspell(b"=b*2;*1;"), None);
+    assert_eq!(unspell(b"=b*00000000000000000002;"), Some(b"bbb".to_vec()));
+    assert_eq!(unspell(b"=b*000000000000000000002;"), None);
     assert_eq!(unspell(b"=%2A*003;"), Some(b"****".to_vec()));
     assert_eq!(unspell(b"=;"), Some(b";".to_vec()));
     assert_eq!(
@@ -167,10 +170,10 @@ fn no_calls() {
 
 #[test]
 fn the_longest_line() {
-    let line = |text: &str| format!("judge ={}{}", text, "*0;".repeat(349_522));
-    assert_eq!(line("xxx").len(), calls::MOST_LINE_BYTES);
-    assert_eq!(answer(&line("xxx")), "refused 4");
-    assert_eq!(answer(&line("xxxx")), "no call");
+    let line = |text: &str| format!("judge ={}{}", text, "%41*00000;".repeat(104_856));
+    assert_eq!(line("xxxxxxxxx").len(), calls::MOST_LINE_BYTES);
+    assert_eq!(answer(&line("xxxxxxxxx")), "refused 2");
+    assert_eq!(answer(&line("xxxxxxxxxx")), "no call");
 }
 
 #[test]

@@ -1,18 +1,18 @@
 -- A name that has not three bytes is looked up as any other that is not of the form.
-use Prim.Native.Nat.{ℕ, suc}
+use Prim.Native.Nat.{ℕ}
 use native.Mathlib.Omega.{arith}
 use mathlib.Core.Path.{_≡_, refl}
-use mathlib.Core.Bool.{Bool, true, false, not}
+use mathlib.Core.Bool.{true, false}
 use mathlib.Core.List.{List, [], _∷_, _++_}
 use lib.ListN.{length, getD}
-use Rattle.text.specs.Bytes.{Text, pick}
-use Rattle.text.specs.Answer.{Answer, refused, Test, test, first}
+use Rattle.text.specs.Bytes.{Text}
+use Rattle.text.specs.Answer.{Test, test, first}
 use Rattle.text.specs.declared.refusal.Refusal.{Refusal}
 use Rattle.text.specs.declared.refusal.Refusal.the-variants.{BadPlace}
 use Rattle.frame.specs.Frame.{frameTests}
 use Rattle.frame.specs.Segments.{isName}
 use Rattle.reader.specs.Place.{Place, isPlace}
-use Rattle.reader.specs.LookUp.{Found, lookUp, found, tooFew}
+use Rattle.reader.specs.LookUp.{lookUp, found}
 use Rattle.cabi.specs.Told.{asked}
 use Rattle.cabi.specs.Inner.{SameLookUp}
 

@@ -46,7 +46,7 @@ fn last_end(t: &[u8], from: usize, sep: u8) -> usize
 }
 
 // Where the piece that begins at `from` ends: at the next separator, or at the text's end. Four bytes a turn: most pieces are short, and
-// half of a turn of one byte would be counting. Inner: the callers hold that `from` lies in the text.
+// of a turn of one byte most would be counting. Inner: the callers hold that `from` lies in the text.
 pub fn near_end(t: &[u8], from: usize, sep: u8) -> usize
     requires { ⌜ from ≤ length (now t) ⌝ }
     ensures { λ r. ⌜ r ≡ from + reach sep (drop from (now (t .entry))) ⌝ }

@@ -1,10 +1,10 @@
 -- A field that has components at most: each of them is its own first leaf, with no escape.
-use mathlib.Core.Path.{_≡_, refl, sym, ap, subst, _∙_}
-use Prim.Native.Nat.{ℕ, _+_, _-_, _≤_, _<_}
+use mathlib.Core.Path.{_≡_, refl, sym, ap, _∙_}
+use Prim.Native.Nat.{ℕ, _+_, _-_, _≤_}
 use native.Mathlib.Omega.{arith}
-use mathlib.Core.Bool.{Bool, true, false, not, _&&_, _||_}
+use mathlib.Core.Bool.{Bool, true, false, not, _||_}
 use mathlib.Core.List.{List, [], _∷_}
-use lib.ListN.{length, getD, take, drop}
+use lib.ListN.{length, getD, drop}
 use lib.Seq.{take-all}
 use lib.Dec.{eqb, ltb}
 use borrow.Author.Tests.{not-true}
@@ -20,12 +20,9 @@ use Rattle.text.proofs.Lists.{and-both, or-none}
 use Rattle.text.proofs.TypeLaws.{every-drop}
 use Rattle.parts.specs.Split.{split, piece, start}
 use Rattle.parts.specs.Span.{span, IsPiece}
-use Rattle.parts.specs.declared.Span.{Span}
 use Rattle.parts.specs.declared.cursor.Cursor.{Cursor}
 use Rattle.parts.proofs.Split.{before-first}
 use Rattle.parts.proofs.Join.{Free, split-one}
-use Rattle.parts.proofs.Moving.{cursor-inside}
-use Rattle.parts.proofs.Descent.{within-length}
 use Rattle.profile.specs.Table.{Leaf}
 use Rattle.profile.specs.Numbers as row
 use Rattle.reader.specs.declared.repetition.ReadRepetition.{ReadRepetition}

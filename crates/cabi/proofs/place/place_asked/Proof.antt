@@ -1,5 +1,4 @@
 -- `place_asked`: a name of three bytes is those three; any other is looked up as three zeros are.
-use Prim.Native.Nat.{ℕ}
 use mathlib.Core.Path.{sym, ap, _∙_}
 use Rattle.text.specs.Bytes.{Text}
 use Rattle.reader.specs.Place.{Place}
