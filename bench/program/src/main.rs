@@ -13,6 +13,9 @@ use std::time::Instant;
 mod ours;
 mod theirs;
 
+use ours::Ours;
+use theirs::Theirs;
+
 const USAGE: &str = "\
 usage: bench ours|second frame|judge|look|reply|file TIMES < MESSAGE
        bench sum bytes TIMES < MESSAGE
@@ -37,6 +40,15 @@ pub struct Lent {
 /// An entry: its answer as a number.
 type Entry = fn(&[u8], &mut Lent) -> u64;
 
+/// The entries of one of the two programs; an answer is a number, as is a refusal.
+pub trait Core {
+    fn judge(message: &[u8]) -> u64;
+    /// OBX-5 of an occurrence.
+    fn look_up(message: &[u8], occurrence: u64) -> u64;
+    fn reply(message: &[u8], buffer: &mut [u8]) -> u64;
+    fn file(message: &[u8], book: &mut [u8]) -> u64;
+}
+
 /// The plain sum of the bytes.
 #[inline(never)]
 fn sum(message: &[u8], _: &mut Lent) -> u64 {
@@ -46,8 +58,20 @@ fn sum(message: &[u8], _: &mut Lent) -> u64 {
 fn entry(who: &str, what: &str) -> Option<Entry> {
     match (who, what) {
         ("sum", "bytes") => Some(sum),
-        ("ours", _) => ours::entry(what),
-        ("second", _) => theirs::entry(what),
+        ("ours", _) => entry_of::<Ours>(what),
+        ("second", _) => entry_of::<Theirs>(what),
+        _ => None,
+    }
+}
+
+/// Occurrence 0 is a bad place, which is told when the frame is found good: so it takes the frame checks alone.
+fn entry_of<C: Core>(what: &str) -> Option<Entry> {
+    match what {
+        "frame" => Some(|message, _| C::look_up(message, 0)),
+        "judge" => Some(|message, _| C::judge(message)),
+        "look" => Some(|message, lent| C::look_up(message, lent.last)),
+        "reply" => Some(|message, lent| C::reply(message, &mut lent.buffer)),
+        "file" => Some(|message, lent| C::file(message, &mut lent.book)),
         _ => None,
     }
 }

@@ -16,11 +16,11 @@ use text::Marks;
 use text::bad_escape;
 
 // The reason of the first check that a leaf's text breaks, 0 where it breaks none. The row of the leaf begins at `at`. A caller who has
-// seen that there is no escape says so: `plain`.
-pub fn leaf_reason(s: &[u8], q: Marks, plain: bool, t: &[u16], at: usize) -> u8
+// seen that there is no escape says so.
+pub fn leaf_reason(s: &[u8], q: Marks, unescaped: bool, t: &[u16], at: usize) -> u8
     requires { ⌜ at + 11 ≤ length (now t) ⌝ }
     requires { ⌜ (1 ≤ getD (now t) (at + 10) 0) × (getD (now t) (at + 10) 0 ≤ 12) ⌝ }
-    requires { ⌜ (plain ≡ true → badEscape q (now s) ≡ false) ⌝ }
+    requires { ⌜ (unescaped ≡ true → badEscape q (now s) ≡ false) ⌝ }
     ensures { λ r. ⌜ ((p : Place) → told p r ≡ firstBroken (leafChecks q p (leafOf (drop at (now (t .entry)))) (now (s .entry)))) ⌝ }
 {
     if s.len() == 0 {
@@ -32,7 +32,7 @@ pub fn leaf_reason(s: &[u8], q: Marks, plain: bool, t: &[u16], at: usize) -> u8
     if (t[at + 8] as usize) < s.len() {
         return 5;
     }
-    if !plain {
+    if !unescaped {
         if bad_escape(q, s) {
             return 6;
         }

@@ -1,6 +1,6 @@
 // A segment's listed fields. Inner: the callers hold the table's rule, and that the segment has the name of its number.
 ghost use mathlib.Core.Path.{_≡_};
-ghost use mathlib.Core.Bool.{false};
+ghost use mathlib.Core.Bool.{true, false};
 ghost use Prim.Native.Nat.{_+_, _≤_, min};
 ghost use lib.ListN.{length, getD};
 ghost use Rattle.text.specs.Bytes.{pick, within};
@@ -14,7 +14,7 @@ ghost use Rattle.profile.specs.Numbers.{tableOf, usageOf};
 ghost use Rattle.profile.specs.Order.{Sound};
 ghost use Rattle.reader.specs.Fault.{firstFilled, isRequired};
 ghost use Rattle.reader.specs.View.{fieldSeen, namedIn};
-ghost use Rattle.reader.specs.Judged.{ReadsSegment, HasNumber, fieldsSeen, leavesOfField, ReadsFieldAt, atRepetition};
+ghost use Rattle.reader.specs.Judged.{ReadsSegment, HasNumber, fieldsSeen, leavesOfField, ReadsFieldAt, atRepetition, isFlat};
 use crate::field::read_field;
 use crate::flat::flat_passes;
 use crate::flat::is_flat;
@@ -198,6 +198,33 @@ fn judge_field(s: &[u8], text: &[u8], q: Marks, t: &[u16], k: u16, at: usize, en
     }
 }
 
+// Judges a field that has bytes: most break nothing, which is seen without taking them apart. Most list leaves of their own, which is asked here, since
+// a call for each would cost.
+fn judge_bytes(
+    s: &[u8],
+    text: &[u8],
+    q: Marks,
+    flat: bool,
+    t: &[u16],
+    k: u16,
+    at: usize,
+    end: usize,
+) -> Finding
+    requires { ⌜ Sound (now t) × HasNumber (now s) k ⌝ }
+    requires { ⌜ IsField (now t) k at end × (now text ≡ field q (now s) (getD (now t) (at + 1) 0)) ⌝ }
+    requires { ⌜ (flat ≡ true → isFlat q (now text) ≡ true) ⌝ }
+    ensures { λ r. ⌜ ReadsFieldAt q (now (t .entry)) (now (s .entry)) at end r ⌝ }
+{
+    let mut leaves = Rows { start: at, end };
+    if 10 <= t[at + 6] {
+        leaves = leaf_rows(s, q, t, k, at, end);
+    }
+    if flat_passes(text, q, flat, t, leaves) {
+        return at_repetition(0, 0, 0);
+    }
+    judge_field(s, text, q, t, k, at, end)
+}
+
 // On to a field: most segments are short, but in a long one a field may be long.
 fn go_to(fields: &[u8], sep: u8, at: Cursor, n: u64) -> Cursor
     requires { ⌜ IsPiece sep (now fields) at × (at .number ≤ n) ⌝ }
@@ -237,16 +264,9 @@ pub fn read_segment(s: &[u8], q: Marks, t: &[u16], k: u16) -> Finding
                 }
             }
         } else {
-            let x = &fields[from..to];
-            let mut leaves = Rows { start: at, end };
-            if 10 <= t[at + 6] {
-                leaves = leaf_rows(s, q, t, k, at, end);
-            }
-            if !flat_passes(x, q, flat, t, leaves) {
-                let r = judge_field(s, x, q, t, k, at, end);
-                if r.reason != 0 {
-                    return r;
-                }
+            let r = judge_bytes(s, &fields[from..to], q, flat, t, k, at, end);
+            if r.reason != 0 {
+                return r;
             }
         }
         at = end;

@@ -27,6 +27,9 @@ pub struct Bundle {
     pub others: Vec<Vec<u8>>,
 }
 
+/// Bytes that mean something in a call's spelling, or stand for none.
+const MISSPELLINGS: &[u8] = b"%*;= 0123456789AFaf\r\t\x7Fx";
+
 pub struct Generator {
     random: Random,
     books: Vec<Vec<u8>>,
@@ -237,6 +240,22 @@ impl Generator {
             .to_vec()
     }
 
+    /// A call whose spelling is damaged; it may still be one.
+    fn misspelt(&mut self) -> Vec<u8> {
+        let mut line = if self.random.one_in(2) { self.resolve() } else { self.read() };
+        for _ in 0..self.random.between(1, 3) {
+            let at = self.random.below(line.len());
+            let byte = self.random.pick(MISSPELLINGS);
+            match self.random.below(3) {
+                0 => line[at] = byte,
+                1 => line.insert(at, byte),
+                _ if line.len() > 1 => drop(line.remove(at)),
+                _ => line.push(byte),
+            }
+        }
+        line
+    }
+
     /// Calls that stand by themselves.
     fn others(&mut self) -> Vec<Vec<u8>> {
         let mut others = Vec::new();
@@ -248,6 +267,9 @@ impl Generator {
         }
         if self.random.one_in(200) {
             others.push(self.no_call());
+        }
+        if self.random.one_in(20) {
+            others.push(self.misspelt());
         }
         others
     }

@@ -1,24 +1,19 @@
 -- `read_segment`: the first broken check of a segment's listed fields, told from the row where the loop stands.
 use mathlib.Core.Path.{refl, sym, _∙_}
 use mathlib.Core.Bool.{false}
-use mathlib.Core.Logic.{⊎-elim}
 use Prim.Native.Nat.{_+_, _-_}
 use native.Mathlib.Omega.{arith}
 use lib.ListN.{length, getD}
 use borrow.Author.Needs.{needs}
-use borrow.Author.Tests.{not-false}
 use Rattle.text.specs.Bytes.{within}
 use Rattle.frame.specs.Segments.{name}
 use Rattle.parts.proofs.Moving.{cursor-inside}
 use Rattle.profile.proofs.Numbered.{named-number}
-use Rattle.profile.proofs.OneField.{field-most}
 use Rattle.profile.specs.Numbers.{tableOf}
 use Rattle.reader.specs.View.{segmentSeen}
-use Rattle.reader.specs.Judged.{leavesOfField, passed}
-use Rattle.reader.proofs.FieldLeaves.{lists-own, lists-itself}
 use Rattle.reader.proofs.FieldText.{field-at}
 use Rattle.reader.proofs.FlatField.{flat-within}
-use Rattle.reader.proofs.FieldChecks.{usage-none, judged-filled}
+use Rattle.reader.proofs.FieldChecks.{usage-none}
 use Rattle.reader.proofs.SegmentFields.{on-bounds, on-field, on-number}
 use Rattle.reader.proofs.SegmentReading.{Reading, reading-first, low-number, reading-found, reading-on, none-found, none-on, reading-none}
 use Rattle.reader.proofs.segment.read_segment.Statement.{statement}
@@ -139,69 +134,17 @@ returns c =
     (l .loop .inv) (i .loop-test .taken) (d .field-end .ensures) (o .pre .1) (f .fields-start .ensures) (b .fields-before .ensures) (v .go-to .result) (v .go-to .ensures .0) (v .go-to .ensures .1)
     (h .if1 .taken) (g .is-required .result) (g .is-required .ensures) (y .if3 .taken))
 
-part-x-end : tie.Need-part-x-end Inv-loop μ-loop
-part-x-end c =
+part-judge-bytes-end : tie.Need-part-judge-bytes-end Inv-loop μ-loop
+part-judge-bytes-end c =
     let v = c .before in
     let l = v .before .before .before .before in
     let f = l .before .before .before .before .before in
     let a = f .before .before .before .before .args in
     omega (arith, cursor-inside (a .q .field) (within (f .fields-start .result) (length (a .s .now)) (a .s .now)) (v .go-to .result) (v .go-to .ensures .0))
 
-add-if4 : tie.Need-add-if4 Inv-loop μ-loop
-add-if4 c =
-    let i = c .before .before .before .before .before in
-    let l = i .before in
-    let o = l .before .before .before .before .before .before .before .before .before in
-    omega (arith, i .loop-test .taken, l .loop .inv .left .order, l .loop .inv .left .inside, o .good)
-
-mul-if4 : tie.Need-mul-if4 Inv-loop μ-loop
-mul-if4 c =
-    let i = c .before .before .before .before .before in
-    let l = i .before in
-    let o = l .before .before .before .before .before .before .before .before .before in
-    omega (arith, i .loop-test .taken, l .loop .inv .left .order, l .loop .inv .left .inside, o .good)
-
-shared-slice-read-if4 : tie.Need-shared-slice-read-if4 Inv-loop μ-loop
-shared-slice-read-if4 c =
-    let i = c .before .before .before .before .before .before in
-    let l = i .before in
-    omega (arith, i .loop-test .taken, l .loop .inv .left .order, l .loop .inv .left .inside)
-
-leaf-rows-requires : tie.Need-leaf-rows-requires Inv-loop μ-loop
-leaf-rows-requires c κs =
-    let v = c .before .before .before .before in
-    let d = v .before .before in
-    let i = d .before in
-    let l = i .before in
-    let b = l .before .before in
-    let f = b .before .before .before in
-    let u = f .before in
-    let o = u .before .before .before in
-    let a = o .args in
-    (o .pre, on-field (a .t .now) (a .k) (l .loop .at) (u .rows-under .result .end) (d .field-end .result) (l .loop .inv .left) (i .loop-test .taken) (d .field-end .ensures))
-
-flat-passes-requires : tie.Need-flat-passes-requires Inv-loop μ-loop
-flat-passes-requires c κs =
-    let v = c .before .before .before .before in
-    let d = v .before .before in
-    let i = d .before in
-    let l = i .before in
-    let b = l .before .before in
-    let f = b .before .before .before in
-    let u = f .before in
-    let o = u .before .before .before in
-    let a = o .args in
-    let x = within (f .fields-start .result) (length (a .s .now)) (a .s .now) in
-    let e = d .field-end .result in
-    let is = on-field (a .t .now) (a .k) (l .loop .at) (u .rows-under .result .end) e (l .loop .inv .left) (i .loop-test .taken) (d .field-end .ensures) in (
-      lists-itself (a .t .now) (c .if4 .leaves) (leavesOfField (a .q) (a .t .now) (a .s .now) (l .loop .at) e)
-          (⊎-elim (λ w. rw (w .2) (w .1 .ensures)) (λ w. rw (w .1) (lists-own (a .q) (a .t .now) (a .s .now) (a .k) (l .loop .at) e is (w .0 .left))) (c .if4 .came)),
-      λ e. flat-within (a .q) (v .go-to .result .start) (v .go-to .result .end) x (sym (b .before .is-flat .ensures) ∙ e),
-    )
-
-judge-field-requires : tie.Need-judge-field-requires Inv-loop μ-loop
-judge-field-requires c κs =
-    let v = c .before .before .before .before .before .before in
+judge-bytes-requires : tie.Need-judge-bytes-requires Inv-loop μ-loop
+judge-bytes-requires c κs =
+    let v = c .before .before in
     let d = v .before .before in
     let i = d .before in
     let l = i .before in
@@ -215,16 +158,19 @@ judge-field-requires c κs =
     let m = on-number (a .t .now) (a .k) (l .loop .at) (u .rows-under .result .end) (d .field-end .result) w (i .loop-test .taken) (d .field-end .ensures) in (
       o .pre,
       (
-        on-field (a .t .now) (a .k) (l .loop .at) (u .rows-under .result .end) (d .field-end .result) w (i .loop-test .taken) (d .field-end .ensures),
-        field-at (a .s .now) (a .k) (o .pre .1) (getD (a .t .now) (l .loop .at + 1) 0) m (a .q) (f .fields-start .result) (b .fields-before .result) (v .go-to .result)
-            (f .fields-start .ensures) (b .fields-before .ensures) (v .go-to .ensures .0) (v .go-to .ensures .1),
+        (
+          on-field (a .t .now) (a .k) (l .loop .at) (u .rows-under .result .end) (d .field-end .result) w (i .loop-test .taken) (d .field-end .ensures),
+          field-at (a .s .now) (a .k) (o .pre .1) (getD (a .t .now) (l .loop .at + 1) 0) m (a .q) (f .fields-start .result) (b .fields-before .result) (v .go-to .result)
+              (f .fields-start .ensures) (b .fields-before .ensures) (v .go-to .ensures .0) (v .go-to .ensures .1),
+        ),
+        λ e. flat-within (a .q) (v .go-to .result .start) (v .go-to .result .end) x (sym (b .before .is-flat .ensures) ∙ e),
       ),
     )
 
 returns-2 : tie.Need-returns-2 Inv-loop μ-loop
 returns-2 c =
     let j = c .before .before in
-    let d = j .before .before .before .before .before .before .before .before .before in
+    let d = j .before .before .before .before .before in
     let i = d .before in
     let l = i .before in
     let b = l .before .before in
@@ -234,7 +180,7 @@ returns-2 c =
     let a = o .args in
     let x = within (f .fields-start .result) (length (a .s .now)) (a .s .now) in
     reading-found (a .t .now) (a .q) (a .s .now) (a .k) (u .rows-under .result .end) x (l .loop .cursor) (l .loop .at) (d .field-end .result)
-    (l .loop .inv) (i .loop-test .taken) (d .field-end .ensures) (j .judge-field .result) (j .judge-field .ensures) (c .if6 .taken)
+    (l .loop .inv) (i .loop-test .taken) (d .field-end .ensures) (j .judge-bytes .result) (j .judge-bytes .ensures) (c .if4 .taken)
 
 loop-less : tie.Need-loop-less Inv-loop μ-loop
 loop-less c =
@@ -289,7 +235,7 @@ loop-again-2 c =
 
 loop-less-3 : tie.Need-loop-less-3 Inv-loop μ-loop
 loop-less-3 c =
-    let d = c .before .before .before .before .before .before .before .before .before .before .before in
+    let d = c .before .before .before .before .before .before .before in
     let i = d .before in
     let l = i .before in
     let u = l .before .before .before .before .before .before in
@@ -299,7 +245,7 @@ loop-less-3 c =
 loop-again-3 : tie.Need-loop-again-3 Inv-loop μ-loop
 loop-again-3 c =
     let j = c .before .before in
-    let v = j .before .before .before .before .before .before .before in
+    let v = j .before .before .before in
     let d = v .before .before in
     let i = d .before in
     let l = i .before in
@@ -310,46 +256,8 @@ loop-again-3 c =
     let a = o .args in
     let x = within (f .fields-start .result) (length (a .s .now)) (a .s .now) in
     reading-on (a .t .now) (a .q) (a .s .now) (a .k) (u .rows-under .result .end) x (l .loop .cursor) (l .loop .at) (d .field-end .result)
-    (l .loop .inv) (i .loop-test .taken) (d .field-end .ensures) (j .judge-field .result) (j .judge-field .ensures) (c .if6 .left)
+    (l .loop .inv) (i .loop-test .taken) (d .field-end .ensures) (j .judge-bytes .result) (j .judge-bytes .ensures) (c .if4 .left)
     (v .go-to .result) (b .fields-before .result) (b .fields-before .ensures) (v .go-to .ensures .0) (v .go-to .ensures .1)
-
-loop-less-4 : tie.Need-loop-less-4 Inv-loop μ-loop
-loop-less-4 c =
-    let d = c .before .before .before .before .before .before .before .before in
-    let i = d .before in
-    let l = i .before in
-    let u = l .before .before .before .before .before .before in
-    let a = u .before .before .before .args in
-    omega (arith, i .loop-test .taken, on-bounds (a .t .now) (a .k) (l .loop .at) (u .rows-under .result .end) (d .field-end .result) (l .loop .inv .left) (i .loop-test .taken) (d .field-end .ensures))
-
-loop-again-4 : tie.Need-loop-again-4 Inv-loop μ-loop
-loop-again-4 c =
-    let p = c .before in
-    let r = p .before in
-    let v = r .before .before .before .before in
-    let d = v .before .before in
-    let i = d .before in
-    let l = i .before in
-    let b = l .before .before in
-    let f = b .before .before .before in
-    let u = f .before in
-    let o = u .before .before .before in
-    let a = o .args in
-    let x = within (f .fields-start .result) (length (a .s .now)) (a .s .now) in
-    let t = a .t .now in
-    let w = l .loop .inv .left in
-    let e = d .field-end .result in
-    let m = on-number t (a .k) (l .loop .at) (u .rows-under .result .end) e w (i .loop-test .taken) (d .field-end .ensures) in
-    let is = on-field t (a .k) (l .loop .at) (u .rows-under .result .end) e w (i .loop-test .taken) (d .field-end .ensures) in
-    let y =
-    field-at (a .s .now) (a .k) (o .pre .1) (getD t (l .loop .at + 1) 0) m (a .q) (f .fields-start .result) (b .fields-before .result) (v .go-to .result)
-    (f .fields-start .ensures) (b .fields-before .ensures) (v .go-to .ensures .0) (v .go-to .ensures .1) in
-    reading-on t (a .q) (a .s .now) (a .k) (u .rows-under .result .end) x (l .loop .cursor) (l .loop .at) e (l .loop .inv) (i .loop-test .taken) (d .field-end .ensures)
-    (record { reason = 0; field = getD t (l .loop .at + 1) 0; repetition = 1; component = 0; subcomponent = 0 })
-    (judged-filled (a .q) t (a .s .now) (a .k) (l .loop .at) e (o .pre .1) m (within (v .go-to .result .start) (v .go-to .result .end) x) y (r .if4 .leaves)
-    (⊎-elim (λ w. rw (w .2) (w .1 .ensures)) (λ w. rw (w .1) (lists-own (a .q) t (a .s .now) (a .k) (l .loop .at) e is (w .0 .left))) (r .if4 .came)) passed
-    (p .flat-passes .ensures (not-false _ (c .if5 .left)) (getD t (l .loop .at + 5) 0) (field-most t (a .k) (l .loop .at) e is)) refl refl)
-    refl (v .go-to .result) (b .fields-before .result) (b .fields-before .ensures) (v .go-to .ensures .0) (v .go-to .ensures .1)
 
 returns-3 : tie.Need-returns-3 Inv-loop μ-loop
 returns-3 c =
@@ -395,13 +303,8 @@ read-segment-spec =
     returns
     (λ c. search needs)
     (λ c. search needs)
-    part-x-end
-    add-if4
-    mul-if4
-    shared-slice-read-if4
-    leaf-rows-requires
-    flat-passes-requires
-    judge-field-requires
+    part-judge-bytes-end
+    judge-bytes-requires
     returns-2
     loop-less
     loop-again
@@ -409,7 +312,5 @@ read-segment-spec =
     loop-again-2
     loop-less-3
     loop-again-3
-    loop-less-4
-    loop-again-4
     (λ c κs. search needs)
     returns-3)
