@@ -6,7 +6,7 @@ use lib.ListN.{length}
 use Rattle.text.specs.Bytes.{Text}
 use Rattle.text.specs.Answer.{Answer, bufferAfter, reported}
 use Rattle.text.specs.Marks.{usual}
-use Rattle.text.specs.Escape.{resolve}
+use Rattle.escape.specs.Escape.{resolve}
 use Rattle.profile.specs.Table.{Table}
 use Rattle.reader.specs.LookUp.{lookUp}
 use Rattle.reader.specs.Fault.{judge}

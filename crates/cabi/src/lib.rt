@@ -15,7 +15,7 @@ use tell::tell_found;
 use tell::tell_value;
 use tell::tell_verdict;
 use tell::tell_written;
-use text::resolve;
+use escape::resolve;
 
 // Judges a message.
 #[no_mangle]

@@ -7,14 +7,14 @@ use denote.Ref.{RefT}
 use Rattle.text.specs.Bytes.{Text, within}
 use Rattle.text.specs.Answer.{Answer, refused, given, Test, first, tell, bufferAfter, writtenOf}
 use Rattle.text.specs.Marks.{usual}
-use Rattle.text.specs.Escape.{resolveTests, resolved, resolve}
-use Rattle.text.specs.Promise.{Resolves}
+use Rattle.escape.specs.Escape.{resolveTests, resolved, resolve}
+use Rattle.escape.specs.Promise.{Resolves}
 use Rattle.text.specs.declared.refusal.Refusal.{Refusal}
 use Rattle.text.specs.declared.Written.{Written}
 use Rattle.text.specs.declared.Written.the-variants as written
 use Rattle.text.proofs.Answer.{given-passes, told-refused, tell-first}
 use Rattle.text.proofs.First.{first-refusal}
-use Rattle.text.proofs.Unique.{resolve-unique}
+use Rattle.escape.proofs.Unique.{resolve-unique}
 use Rattle.frame.specs.Frame.{frameTests}
 use Rattle.profile.specs.Profile.{profile01}
 use Rattle.reader.specs.declared.Place.{Place}

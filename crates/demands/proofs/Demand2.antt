@@ -13,9 +13,9 @@ use borrow.Author.Tests.{not-false, ltb-false}
 use Rattle.text.specs.Bytes.{Text, empty}
 use Rattle.text.specs.Answer.{Answer, given, Test, first, passes, bufferAfter, reported}
 use Rattle.text.specs.Marks.{usual}
-use Rattle.text.specs.Types.{isStamp, isReplyNumber}
-use Rattle.text.specs.Escape.{badEscape, resolved, resolveTests, resolve}
-use Rattle.text.specs.Promise.{Resolves}
+use Rattle.types.specs.Types.{isStamp, isReplyNumber}
+use Rattle.escape.specs.Escape.{badEscape, resolved, resolveTests, resolve}
+use Rattle.escape.specs.Promise.{Resolves}
 use Rattle.text.specs.declared.Written.the-variants.{Bytes}
 use Rattle.text.proofs.Tests.{not-true, empty-some}
 use Rattle.text.proofs.Answer.{passes-rest, passes-both, first-asked, first-given, given-passes, tell-first}

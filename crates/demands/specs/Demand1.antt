@@ -16,8 +16,8 @@ use Rattle.text.specs.Bytes.{Text}
 use Rattle.text.specs.Answer.{Answer, refused, given, Test, passes, numberOf, writtenOf}
 use Rattle.text.specs.First.{FirstRefusal}
 use Rattle.text.specs.Marks.{usual}
-use Rattle.text.specs.Escape.{resolveTests}
-use Rattle.text.specs.Promise.{Resolves}
+use Rattle.escape.specs.Escape.{resolveTests}
+use Rattle.escape.specs.Promise.{Resolves}
 use Rattle.text.specs.declared.refusal.Refusal.{Refusal}
 use Rattle.frame.specs.Frame.{frameTests}
 use Rattle.profile.specs.Profile.{profile01}

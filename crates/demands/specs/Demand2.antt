@@ -13,8 +13,8 @@ use lib.ListN.{length, take, drop}
 use denote.Ref.{RefT}
 use Rattle.text.specs.Bytes.{Text, empty}
 use Rattle.text.specs.Marks.{usual}
-use Rattle.text.specs.Escape.{resolved}
-use Rattle.text.specs.Promise.{Resolves}
+use Rattle.escape.specs.Escape.{resolved}
+use Rattle.escape.specs.Promise.{Resolves}
 use Rattle.text.specs.declared.Written.the-variants.{Bytes}
 use Rattle.frame.specs.Frame.{framed}
 use Rattle.profile.specs.Profile.{profile01}

@@ -1,7 +1,7 @@
 // Four of the six entries, each called as it is, under the promise that the three demands are about; proofs/Contracts.antt has the other two.
 // Nothing is asked of the caller. Where an entry came to promise less, or to ask for something first, this crate would no longer be proved,
 // and the demands would speak of nothing.
-ghost use Rattle.text.specs.Promise.{Resolves};
+ghost use Rattle.escape.specs.Promise.{Resolves};
 ghost use Rattle.profile.specs.Profile.{profile01};
 ghost use Rattle.reader.specs.Promise.{Judges};
 ghost use Rattle.reply.specs.Promise.{Replies};
@@ -31,5 +31,5 @@ fn file(m: &[u8], group: u64, slot: usize, book: &mut [u8]) -> Filed
 fn resolve(text: &[u8], buffer: &mut [u8]) -> Written
     ensures { λ r. ⌜ Resolves (now (text .entry)) (now (buffer .entry)) r (now (buffer .exit)) ⌝ }
 {
-    text::resolve(text, buffer)
+    escape::resolve(text, buffer)
 }

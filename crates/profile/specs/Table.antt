@@ -4,7 +4,7 @@ use mathlib.Core.Bool.{Bool, true, _&&_}
 use mathlib.Core.List.{List, [], _∷_, flatMap}
 use lib.Dec.{eqb}
 use Rattle.text.specs.Bytes.{Text, pick, some, keep, same, isOne}
-use Rattle.text.specs.Types.{isSI, isNM, isDTM, isTM}
+use Rattle.types.specs.Types.{isSI, isNM, isDTM, isTM}
 
 pub data Simple : Type 0 where
   SI NM DTM TM ST TX FT ID IS : Simple

@@ -5,11 +5,11 @@ ghost use Rattle.text.specs.Bytes.{isOne};
 ghost use Rattle.profile.specs.Table.{ofType, among};
 ghost use Rattle.profile.specs.Lists.{oneEach};
 ghost use Rattle.profile.specs.Numbers.{simpleOf, codesOf, segmentNumber, typeNumber};
-use text::is_dtm;
-use text::is_nm;
+use types::is_dtm;
+use types::is_nm;
 use text::is_same;
-use text::is_si;
-use text::is_tm;
+use types::is_si;
+use types::is_tm;
 
 // Whether a text is of the simple type with that number.
 pub fn is_of_type(n: u16, s: &[u8]) -> bool

@@ -10,8 +10,8 @@ use borrow.Author.Tests.{le-ltb, ltb-false}
 use Rattle.text.specs.Bytes.{Text, pick, empty, some}
 use Rattle.text.specs.declared.marks.Marks.{Marks}
 use Rattle.text.specs.Marks.{marksOf}
-use Rattle.text.specs.Escape.{badEscape, endsOutside}
-use Rattle.text.specs.Types.{tooLong}
+use Rattle.escape.specs.Escape.{badEscape, endsOutside}
+use Rattle.text.specs.Limits.{tooLong}
 use Rattle.text.proofs.Tests.{not-true, same-true}
 use Rattle.text.proofs.Lists.{All, all-map, all-both, all-keep, all-kept, every-all, some-mono, or-none}
 use Rattle.parts.specs.Split.{split, piece}

@@ -11,7 +11,7 @@ use borrow.Author.Tests.{ltb-false, eqb-true, eq-eqb}
 use Rattle.text.specs.Bytes.{Text, empty, some, every, keep, same}
 use Rattle.text.specs.declared.marks.Marks.{Marks}
 use Rattle.text.specs.Marks.{marksOf}
-use Rattle.text.specs.Escape.{badEscape}
+use Rattle.escape.specs.Escape.{badEscape}
 use Rattle.text.proofs.Tests.{not-true, both}
 use Rattle.text.proofs.Lists.{All, and-both, all-map, all-both, all-keep, all-kept, all-flatMap, every-all, some-mono}
 use Rattle.frame.specs.Segments.{occurrence, fewer}

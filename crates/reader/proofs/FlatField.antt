@@ -9,15 +9,15 @@ use lib.Seq.{take-all}
 use lib.Dec.{eqb, ltb}
 use borrow.Author.Tests.{not-true}
 use Rattle.text.specs.Bytes.{Text, every, within}
-use Rattle.text.specs.Escape.{badEscape}
-use Rattle.text.specs.Step.{isOther}
-use Rattle.text.proofs.Escapes.{free-ends}
+use Rattle.escape.specs.Escape.{badEscape}
+use Rattle.escape.specs.Step.{isOther}
+use Rattle.escape.proofs.Escapes.{free-ends}
 use Rattle.text.specs.declared.marks.Marks.{Marks}
 use Rattle.text.proofs.Tests.{both}
 use Rattle.text.proofs.Tests.{not-true as no}
 use native.Mathlib.Nat.{zero-add}
 use Rattle.text.proofs.Lists.{and-both, or-none}
-use Rattle.text.proofs.TypeLaws.{every-drop}
+use Rattle.text.proofs.Lists.{every-drop}
 use Rattle.parts.specs.Split.{split, piece, start}
 use Rattle.parts.specs.Span.{span, IsPiece}
 use Rattle.parts.specs.declared.cursor.Cursor.{Cursor}

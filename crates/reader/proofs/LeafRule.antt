@@ -8,7 +8,7 @@ use lib.ListN.{length, getD, drop}
 use lib.Seq.{getD-drop}
 use borrow.Author.Tests.{eq-eqb, ne-eqb, lt-ltb, le-ltb}
 use Rattle.text.specs.Bytes.{Text, empty}
-use Rattle.text.specs.Escape.{endsOutside, badEscape}
+use Rattle.escape.specs.Escape.{endsOutside, badEscape}
 use Rattle.text.specs.declared.marks.Marks.{Marks}
 use Rattle.text.proofs.Tests.{empty-none, empty-some}
 use Rattle.profile.specs.Table.{ofType, among}

@@ -9,7 +9,7 @@ use denote.Ref.{RefT}
 use lib.Dec.{leb}
 use borrow.Author.Tests.{leb-true, not-true, not-false}
 use Rattle.text.specs.Bytes.{Text, within}
-use Rattle.text.specs.Types.{_to_, isWithin}
+use Rattle.text.specs.Limits.{_to_, isWithin}
 use Rattle.text.proofs.Tests.{both}
 use Rattle.text.specs.Answer.{Answer, refused, given, Test, test, first}
 use Rattle.text.specs.declared.refusal.Refusal.{Refusal}

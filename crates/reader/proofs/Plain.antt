@@ -10,7 +10,7 @@ use Rattle.text.specs.declared.marks.Marks.{Marks}
 use Rattle.text.specs.Marks.{marksOf}
 use Rattle.text.proofs.Tests.{both}
 use Rattle.text.proofs.Lists.{and-both, or-false, All, all-keep}
-use Rattle.text.proofs.TypeLaws.{every-drop}
+use Rattle.text.proofs.Lists.{every-drop}
 use Rattle.parts.specs.Split.{front, split, piece, ended}
 use Rattle.parts.specs.Descent.{Step, cut, part, inField}
 use Rattle.frame.specs.Segments.{segments, named, ofName, isHeader, headerField, field, unsplit}

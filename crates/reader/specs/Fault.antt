@@ -10,8 +10,8 @@ use Rattle.text.specs.Answer.{Answer, first}
 use Rattle.text.specs.First.{none, First}
 use Rattle.text.specs.declared.marks.Marks.{Marks}
 use Rattle.text.specs.Marks.{marksOf}
-use Rattle.text.specs.Escape.{badEscape}
-use Rattle.text.specs.Types.{tooLong}
+use Rattle.escape.specs.Escape.{badEscape}
+use Rattle.text.specs.Limits.{tooLong}
 use Rattle.frame.specs.Frame.{frameTests}
 use Rattle.profile.specs.Table.{Table, Leaf, Usage, O, R, C, ofType, among, mayFollow, mayEnd}
 use Rattle.reader.specs.Place.{Place, place}

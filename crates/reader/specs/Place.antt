@@ -5,7 +5,7 @@ use mathlib.Core.List.{List, []}
 use Rattle.text.specs.Bytes.{Text, pick, empty}
 use Rattle.text.specs.declared.marks.Marks.{Marks}
 use Rattle.text.specs.Marks.{marksOf}
-use Rattle.text.specs.Types.{_to_, isWithin}
+use Rattle.text.specs.Limits.{_to_, isWithin}
 use Rattle.parts.specs.Descent.{cut, part, partStart, inField, inRepetition}
 use Rattle.frame.specs.Segments.{isName, occurrence, occurrenceStart, field, fieldStart, unsplit}
 

@@ -1,6 +1,6 @@
 // Which places may be asked for.
 ghost use mathlib.Core.Path.{_≡_};
-ghost use Rattle.text.specs.Types.{_to_, isWithin};
+ghost use Rattle.text.specs.Limits.{_to_, isWithin};
 ghost use Rattle.reader.specs.Place.{isPlace};
 ghost use Rattle.reader.specs.Told.{placeOf};
 use crate::Place;

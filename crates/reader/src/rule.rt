@@ -5,7 +5,7 @@ ghost use Prim.Native.Nat.{_+_, _≤_};
 ghost use lib.ListN.{length, drop, getD};
 ghost use Rattle.text.specs.Bytes.{Text};
 ghost use Rattle.text.specs.declared.marks.Marks.{Marks};
-ghost use Rattle.text.specs.Escape.{badEscape};
+ghost use Rattle.escape.specs.Escape.{badEscape};
 ghost use Rattle.profile.specs.Numbers.{leafOf};
 ghost use Rattle.reader.specs.Place.{Place};
 ghost use Rattle.reader.specs.Fault.{accepted, leafChecks, firstBroken};
@@ -13,7 +13,7 @@ ghost use Rattle.reader.specs.Judged.{told};
 use profile::is_in_list;
 use profile::is_of_type;
 use text::Marks;
-use text::bad_escape;
+use escape::bad_escape;
 
 // The reason of the first check that a leaf's text breaks, 0 where it breaks none. The row of the leaf begins at `at`. A caller who has
 // seen that there is no escape says so.

@@ -17,7 +17,7 @@ pub fn ask_look(m: &[u8], p: Place, out: &mut [u8]) -> usize {
 }
 
 pub fn ask_resolve(t: &[u8], buffer: &mut [u8], out: &mut [u8]) -> usize {
-    let w = text::resolve(t, buffer);
+    let w = escape::resolve(t, buffer);
     tell_written(out, w, buffer)
 }
 

@@ -10,8 +10,9 @@ use borrow.Author.Tests.{ltb-false, eqb-true, leb-true, lt-ltb}
 use Rattle.text.specs.Bytes.{Text, pick, bytes, byte, cr, digit, capitalOrDigit, empty, every, some, same, isOne}
 use Rattle.text.specs.Decimal.{digitsBefore, decimal}
 use Rattle.text.specs.Marks.{usual, marksOf}
-use Rattle.text.specs.Escape.{badEscape}
-use Rattle.text.specs.Types.{tooLong, _to_, isWithin, isDTM, isStamp, isReplyNumber}
+use Rattle.escape.specs.Escape.{badEscape}
+use Rattle.types.specs.Types.{isDTM, isStamp, isReplyNumber}
+use Rattle.text.specs.Limits.{tooLong, _to_, isWithin}
 use Rattle.text.proofs.Tests.{not-true, both, picks, same-true}
 use Rattle.text.proofs.Lists.{All, or-either, or-none}
 use Rattle.text.proofs.Digits.{decimal-length}

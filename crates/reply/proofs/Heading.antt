@@ -10,8 +10,8 @@ use borrow.Author.Tests.{lt-ltb, ne-eqb}
 use Rattle.text.specs.Bytes.{Text, pick, bytes, byte, cr, empty}
 use Rattle.text.specs.declared.marks.Marks.{Marks}
 use Rattle.text.specs.Marks.{usual, marksOf}
-use Rattle.text.specs.Escape.{badEscape}
-use Rattle.text.specs.Types.{tooLong}
+use Rattle.escape.specs.Escape.{badEscape}
+use Rattle.text.specs.Limits.{tooLong}
 use Rattle.text.proofs.Lists.{or-assoc}
 use Rattle.parts.specs.Split.{led, join}
 use Rattle.frame.specs.declared.segment.Standing.{Standing}

@@ -3,7 +3,7 @@ use mathlib.Core.Path.{_≡_, sym, _∙_}
 use Rattle.text.specs.Bytes.{Text}
 use Rattle.text.specs.declared.Written.{Written}
 use Rattle.profile.specs.Table.{Table}
-use Rattle.text.proofs.Unique.{written-same}
+use Rattle.escape.proofs.Unique.{written-same}
 use Rattle.reply.specs.Promise.{Replies}
 
 pub reply-unique : (T : Table) (m stamp number before : Text) (r r' : Written) (after after' : Text)

@@ -8,7 +8,7 @@ use lib.ListN.{length, length-append}
 use lib.Dec.{ltb}
 use borrow.Author.Tests.{lt-ltb, le-ltb, not-true, not-false}
 use Rattle.text.specs.Bytes.{Text, pick, bytes, cr, within}
-use Rattle.text.specs.Types.{isStamp, isReplyNumber}
+use Rattle.types.specs.Types.{isStamp, isReplyNumber}
 use Rattle.text.specs.Answer.{Answer, refused, given, first, tell}
 use Rattle.text.specs.Puts.{Puts}
 use Rattle.text.specs.Marks.{usual, marksOf}

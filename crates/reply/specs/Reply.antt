@@ -9,8 +9,9 @@ use Rattle.text.specs.Decimal.{decimal}
 use Rattle.text.specs.Answer.{Answer, Test, test, first}
 use Rattle.text.specs.declared.marks.Marks.{Marks}
 use Rattle.text.specs.Marks.{usual, marksOf}
-use Rattle.text.specs.Escape.{badEscape}
-use Rattle.text.specs.Types.{tooLong, isStamp, isReplyNumber}
+use Rattle.escape.specs.Escape.{badEscape}
+use Rattle.text.specs.Limits.{tooLong}
+use Rattle.types.specs.Types.{isStamp, isReplyNumber}
 use Rattle.text.specs.declared.refusal.Refusal.the-variants.{BadStamp, BadReplyNumber, NoControlNumber, NoRoom}
 use Rattle.parts.specs.Split.{join, closed}
 use Rattle.frame.specs.Frame.{frameTests, header}

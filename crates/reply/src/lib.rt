@@ -25,8 +25,8 @@ use reader::judge;
 use reader::text_in;
 use text::Refusal;
 use text::Written;
-use text::is_reply_number;
-use text::is_stamp;
+use types::is_reply_number;
+use types::is_stamp;
 use text::marks_of;
 use text::put;
 

@@ -4,7 +4,7 @@ use mathlib.Core.Path.{_≡_}
 use mathlib.Core.Bool.{true, false}
 use lib.ListN.{length}
 use Rattle.text.specs.Bytes.{Text, bytes}
-use Rattle.text.specs.Escape.{badEscape}
+use Rattle.escape.specs.Escape.{badEscape}
 use Rattle.text.specs.Marks.{marksOf}
 use Rattle.frame.specs.Frame.{framed}
 use Rattle.frame.specs.Segments.{fewer}

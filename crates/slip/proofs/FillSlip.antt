@@ -7,12 +7,12 @@ use mathlib.Core.Bool.{Bool, true, false}
 use mathlib.Core.List.{[], _∷_, _++_, flatMap, append-assoc, append-nil}
 use lib.ListN.{length, drop, set, replicate, length-replicate}
 use Rattle.text.specs.Bytes.{Text, pick, empty}
-use Rattle.text.specs.Escape.{resolved}
+use Rattle.escape.specs.Escape.{resolved}
 use Rattle.text.specs.Puts.{Puts}
 use Rattle.text.specs.declared.marks.Marks.{Marks}
 use Rattle.text.proofs.Tests.{empty-none, empty-some}
 use Rattle.text.proofs.Puts.{puts-length, puts-none, puts-one, puts-both, puts-front}
-use Rattle.text.proofs.Escapes.{resolved-length}
+use Rattle.escape.proofs.Escapes.{resolved-length}
 use Rattle.slip.specs.Slip.{tagged, twoBytes, tagBytes, slotSize, slipOf}
 use Rattle.slip.specs.Inner.{Fits, valuesOf}
 

@@ -4,7 +4,7 @@ use mathlib.Core.Path.{_≡_}
 use mathlib.Core.Bool.{true, false}
 use lib.ListN.{length}
 use Rattle.text.specs.Bytes.{Text, bytes, printable, every}
-use Rattle.text.specs.Escape.{badEscape}
+use Rattle.escape.specs.Escape.{badEscape}
 use Rattle.text.specs.Marks.{marksOf}
 use Rattle.text.specs.declared.marks.Marks.{Marks}
 use Rattle.reader.specs.Place.{place, textAt}

@@ -6,7 +6,7 @@ use mathlib.Core.Bool.{true, false}
 use lib.ListN.{length}
 use Rattle.text.specs.Bytes.{Text, bytes, some, every, same}
 use Rattle.text.specs.Marks.{marksOf}
-use Rattle.text.specs.Escape.{badEscape}
+use Rattle.escape.specs.Escape.{badEscape}
 use Rattle.frame.specs.Frame.{framed}
 use Rattle.frame.specs.Segments.{fewer}
 use Rattle.profile.specs.Rows.{rows}

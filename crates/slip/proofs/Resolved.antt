@@ -9,7 +9,7 @@ use lib.Dec.{eqb}
 use borrow.Author.Tests.{not-false}
 use Rattle.text.specs.Bytes.{Text, pick, byte, printable, every}
 use Rattle.text.specs.Marks.{usual}
-use Rattle.text.specs.Escape.{Stand, outside, begun, meaning, wrong, letter, next, isOutside, endsOutside, badEscape, adding, resolvedFrom, resolved}
+use Rattle.escape.specs.Escape.{Stand, outside, begun, meaning, wrong, letter, next, isOutside, endsOutside, badEscape, adding, resolvedFrom, resolved}
 use Rattle.text.specs.declared.marks.Marks.{Marks}
 use Rattle.text.proofs.Tests.{not-true, both, picks}
 use Rattle.text.proofs.Lists.{and-both}

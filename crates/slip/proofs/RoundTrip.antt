@@ -10,13 +10,13 @@ use lib.Dec.{eqb, leb, ltb}
 use borrow.Author.Tests.{eqb-false, not-false}
 use Rattle.text.specs.Bytes.{Text, bytes, within}
 use Rattle.text.specs.Answer.{Answer, refused, given, test, first, passes, tell}
-use Rattle.text.specs.Escape.{resolved, resolvedFrom}
+use Rattle.escape.specs.Escape.{resolved, resolvedFrom}
 use Rattle.text.specs.Marks.{marksOf}
 use Rattle.text.specs.declared.marks.Marks.{Marks}
 use Rattle.text.specs.declared.refusal.Refusal.the-variants.{NotAccepted, NoGroup, NoSlot, BadSlip, NoTag}
 use Rattle.text.proofs.Tests.{not-true, empty-some}
 use Rattle.text.proofs.Lists.{or-none}
-use Rattle.text.proofs.Escapes.{resolved-length}
+use Rattle.escape.proofs.Escapes.{resolved-length}
 use Rattle.text.proofs.Answer.{passes-rest, passes-both, given-passes, first-asked}
 use Rattle.frame.specs.Frame.{frameTests, framed}
 use Rattle.frame.specs.Segments.{segments, ofName, fewer}

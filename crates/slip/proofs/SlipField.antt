@@ -10,9 +10,9 @@ use lib.Seq.{getD-drop, drop-drop}
 use lib.Dec.{eqb, leb}
 use borrow.Author.Tests.{eq-eqb, ne-eqb, leb-true, not-true, not-false}
 use Rattle.text.specs.Bytes.{Text, pick, printable, every, within}
-use Rattle.text.specs.Types.{_to_, isWithin}
+use Rattle.text.specs.Limits.{_to_, isWithin}
 use Rattle.text.proofs.Tests.{both}
-use Rattle.text.proofs.TypeLaws.{part-rest}
+use Rattle.text.proofs.Lists.{part-rest}
 use Rattle.slip.specs.declared.reading.Field.{Field}
 use Rattle.slip.specs.declared.reading.Field.the-variants as field
 use Rattle.slip.specs.Read.{mostOf, fieldOf, size, value, hasTag, Expected, isThere, taken, isZero, isSlipFrom}

@@ -10,7 +10,7 @@ use lib.Dec.{eqb, leb}
 use borrow.Author.Tests.{eqb-true, leb-true, leb-false, not-false}
 use denote.Ref.{RefT}
 use Rattle.text.specs.Bytes.{Text, pick, printable, every}
-use Rattle.text.specs.Types.{_to_, isWithin}
+use Rattle.text.specs.Limits.{_to_, isWithin}
 use Rattle.text.specs.Answer.{given, passes}
 use Rattle.text.proofs.Tests.{both, not-true as false-true}
 use Rattle.text.proofs.Answer.{passes-rest, given-passes, first-asked}

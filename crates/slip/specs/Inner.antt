@@ -6,7 +6,7 @@ use mathlib.Core.List.{List, [], _∷_}
 use lib.ListN.{length, drop}
 use Rattle.text.specs.Bytes.{Text, bytes}
 use Rattle.text.specs.Answer.{Answer, first}
-use Rattle.text.specs.Escape.{badEscape, resolved}
+use Rattle.escape.specs.Escape.{badEscape, resolved}
 use Rattle.text.specs.declared.marks.Marks.{Marks}
 use Rattle.frame.specs.declared.segment.Standing.the-variants.{Segment}
 use Rattle.frame.specs.Told.{standing}

@@ -7,7 +7,7 @@ use lib.ListN.{getD, take, drop}
 use lib.Dec.{eqb, leb}
 use Rattle.text.specs.Bytes.{Text, pick, printable, every}
 use Rattle.text.specs.Answer.{Answer, Test, test, first}
-use Rattle.text.specs.Types.{_to_, isWithin}
+use Rattle.text.specs.Limits.{_to_, isWithin}
 use Rattle.text.specs.declared.refusal.Refusal.the-variants.{NoSlot, BadSlip, NoTag}
 use Rattle.slip.specs.Slip.{slotSize}
 use Rattle.slip.specs.Book.{noSlot}

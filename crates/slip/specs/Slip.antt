@@ -4,7 +4,7 @@ use mathlib.Core.List.{List, [], _∷_, _++_, flatMap}
 use lib.ListN.{length, replicate}
 use Rattle.text.specs.Bytes.{Text, pick, bytes, empty}
 use Rattle.text.specs.Marks.{marksOf}
-use Rattle.text.specs.Escape.{resolved}
+use Rattle.escape.specs.Escape.{resolved}
 use Rattle.frame.specs.Segments.{segments, named}
 use Rattle.reader.specs.Place.{place, textAt}
 

@@ -2,13 +2,13 @@
 ghost use mathlib.Core.Path.{_≡_};
 ghost use Prim.Native.Nat.{_+_, _≤_};
 ghost use lib.ListN.{length, replicate};
-ghost use Rattle.text.specs.Escape.{resolved};
+ghost use Rattle.escape.specs.Escape.{resolved};
 ghost use Rattle.text.specs.Puts.{Puts};
 ghost use Rattle.slip.specs.Slip.{twoBytes, tagged, tagBytes, slotSize, slipOf};
 ghost use Rattle.slip.specs.Inner.{Fits, valuesOf};
 use text::Marks;
-use text::put_resolved;
-use text::resolved_len;
+use escape::put_resolved;
+use escape::resolved_len;
 
 // A field: its tag, its length and its resolved text; an Empty one is left out.
 fn put_text(slip: &mut [u8], at: usize, tag: u8, q: Marks, t: &[u8]) -> usize

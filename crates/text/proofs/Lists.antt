@@ -1,9 +1,10 @@
 -- Laws of tests over lists.
 use mathlib.Core.Path.{_≡_, refl, sym, ap, _∙_}
-use Prim.Native.Nat.{ℕ, _+_, _≤_, _<_}
+use Prim.Native.Nat.{ℕ, zero, suc, _+_, _-_, _≤_, _<_}
 use native.Mathlib.Numerals.{add-one}
-use lib.ListN.{length, getD, drop, drop-of-length-le}
-use lib.Seq.{drop-cons}
+use native.Mathlib.Omega.{arith}
+use lib.ListN.{length, getD, take, drop, drop-of-length-le, length-drop}
+use lib.Seq.{drop-cons, take-all}
 use mathlib.Core.Bool.{Bool, true, false, _&&_, _||_}
 use mathlib.Core.List.{List, [], _∷_, _++_, map, flatMap}
 use Rattle.text.specs.Bytes.{pick, every, some, keep}
@@ -157,3 +158,21 @@ some-flatMap k g f (x ∷ l) e =
     (λ h. some-here g f x (keep k l) (k x) (both (k x) (some g (f x)) h .0) (both (k x) (some g (f x)) h .1))
     (λ h. some-later g f x (keep k l) (k x) (some-flatMap k g f l h))
     e
+
+module _ {A : Type 0} (p : A → Bool) where
+  -- what holds of each member holds of those further on, and of the one at an index
+  pub every-drop : (i : ℕ) (l : List A) → every p l ≡ true → every p (drop i l) ≡ true
+  unfolding every
+  every-drop zero l e = e
+  every-drop (suc i) [] e = e
+  every-drop (suc i) (x ∷ l) e = every-drop i l (both (p x) (every p l) e .1)
+
+  pub every-at : (l : List A) (i : ℕ) (d : A) → i < length l → every p l ≡ true → p (getD l i d) ≡ true
+  unfolding every
+  every-at [] i d h e = absurd (omega arith)
+  every-at (x ∷ l) zero d h e = both (p x) (every p l) e .0
+  every-at (x ∷ l) (suc i) d h e = every-at l i d (omega arith) (both (p x) (every p l) e .1)
+
+-- the part of a list from a place to the end, as code takes it
+pub part-rest : {A : Type 0} (a : ℕ) (t : List A) → take (length t - a) (drop a t) ≡ drop a t
+part-rest a t = take-all (length t - a) (drop a t) (simp length-drop (omega arith))

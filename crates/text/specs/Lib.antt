@@ -4,7 +4,4 @@ pub mod First
 pub mod Decimal
 pub mod Puts
 pub mod Marks
-pub mod Escape
-pub mod Step
-pub mod Promise
-pub mod Types
+pub mod Limits

@@ -1,9 +1,7 @@
-// Bytes, escapes and simple types; the numbers that a caller gets back.
+// Bytes and byte strings, the five separators, writing into a lent buffer; the numbers that a caller gets back.
 mod bytes;
-mod escape;
 mod marks;
 mod refusal;
-mod types;
 mod writing;
 
 pub use bytes::is_capital;
@@ -11,21 +9,11 @@ pub use bytes::is_capital_or_digit;
 pub use bytes::is_digit;
 pub use bytes::is_printable;
 pub use bytes::is_same;
-pub use escape::bad_escape;
-pub use escape::put_resolved;
-pub use escape::resolve;
-pub use escape::resolved_len;
 pub use marks::Marks;
 pub use marks::marks_of;
 pub use marks::usual_marks;
 pub use refusal::Refusal;
 pub use refusal::number;
-pub use types::is_dtm;
-pub use types::is_nm;
-pub use types::is_reply_number;
-pub use types::is_si;
-pub use types::is_stamp;
-pub use types::is_tm;
 pub use writing::put;
 pub use writing::put_decimal;
 

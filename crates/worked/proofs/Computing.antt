@@ -3,8 +3,8 @@ use mathlib.Core.List.{flatMap}
 use Rattle.text.specs.Bytes.{every, some, keep, same}
 use Rattle.text.specs.Answer.{first}
 use Rattle.text.specs.Marks.{marksOf}
-use Rattle.text.specs.Escape.{endsOutside, resolvedFrom, resolve}
-use Rattle.text.specs.Types.{digits, rest, twos}
+use Rattle.escape.specs.Escape.{endsOutside, resolvedFrom, resolve}
+use Rattle.types.specs.Types.{digits, rest, twos}
 use Rattle.parts.specs.Split.{split, before, ended, led, join, closed}
 use Rattle.parts.specs.Descent.{part, partStart}
 use Rattle.frame.specs.Segments.{field, fieldStart, ahead}

@@ -7,8 +7,8 @@ use lib.ListN.{take, drop, replicate}
 use Rattle.text.specs.Bytes.{Text, bytes, cr}
 use Rattle.text.specs.Answer.{given, bufferAfter}
 use Rattle.text.specs.Marks.{usual}
-use Rattle.text.specs.Escape.{resolve}
-use Rattle.text.specs.Types.{isSI, isNM, isDTM, isTM, isStamp, isReplyNumber}
+use Rattle.escape.specs.Escape.{resolve}
+use Rattle.types.specs.Types.{isSI, isNM, isDTM, isTM, isStamp, isReplyNumber}
 use Rattle.profile.specs.Profile.{profile01}
 use Rattle.reader.specs.Place.{place}
 use Rattle.reader.specs.LookUp.{lookUp}

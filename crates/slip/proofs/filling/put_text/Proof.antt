@@ -9,8 +9,8 @@ use Rattle.slip.proofs.filling.put_text.Statement.{statement}
 use Rattle.slip.proofs.filling.put_text.Tie as tie
 use Rattle.slip.proofs.filling.put_text.Reads as reads
 use Rattle.slip.proofs.filling.put_text.Lts as lts
-use Rattle.text.proofs.put_resolved.Reads as put-resolved-reads
-use Rattle.text.proofs.resolved_len.Reads as resolved-len-reads
+use Rattle.escape.proofs.put_resolved.Reads as put-resolved-reads
+use Rattle.escape.proofs.resolved_len.Reads as resolved-len-reads
 
 returns : tie.Need-returns
 returns c =

@@ -1,0 +1,86 @@
+-- `some_bad`: whether the rest ends outside an escape decides.
+use Prim.Native.Nat.{_≤_, _+_, _-_}
+use mathlib.Core.Path.{_≡_, sym, ap, _∙_}
+use mathlib.Core.Bool.{not}
+use native.Mathlib.Omega.{arith}
+use borrow.Author.Needs.{needs}
+use borrow.Author.Tests.{not-true, not-false}
+use lib.ListN.{length, drop, getD}
+use Rattle.escape.specs.Escape.{outside, endsOutside}
+use Rattle.escape.specs.Step.{meant}
+use Rattle.escape.proofs.Escapes.{Goes, goes-byte, goes-escape, escape-bad, ends-end}
+use Rattle.escape.proofs.some_bad.Statement.{statement}
+use Rattle.escape.proofs.some_bad.Tie as tie
+use Rattle.escape.proofs.some_bad.Reads as reads
+use Rattle.escape.proofs.some_bad.Lts as lts
+use Rattle.escape.proofs.is_escape.Reads as is-escape-reads
+
+abbrev Inv-loop : tie.InvT-loop
+Inv-loop q t i₀ i = (i ≤ length t) × (endsOutside q outside (drop i t) ≡ endsOutside q outside t)
+
+abbrev μ-loop : tie.MeasureT-loop
+μ-loop q t i₀ i = length t - i
+
+returns : tie.Need-returns Inv-loop μ-loop
+returns c =
+    let at = c .before .before .before .before .before .before in
+    let a = at .before .before .args in
+    let e = c .before .is-escape in
+    ap not
+    (sym
+    (escape-bad (a .q) (a .t .now) (at .loop .i) (search needs) (c .before .before .if1 .taken) (sym (e .ensures) ∙ not-true (e .result) (c .if2 .taken)))
+    ∙ at .loop .inv .1)
+
+-- past an escape
+goes : (c : lts.Else2 (is-escape-reads.Asked, is-escape-reads.Learnt) reads.Pre reads.Post Inv-loop μ-loop)
+    → let at = c .before .before .before .before .before .before in
+    let a = at .before .before .args in
+    Goes (a .q) (a .t .now) (at .loop .i) (at .loop .i + 3) (meant (a .q) (getD (a .t .now) (at .loop .i + 1) 0))
+goes c =
+    let at = c .before .before .before .before .before .before in
+    let a = at .before .before .args in
+    let e = c .before .is-escape in
+    goes-escape (a .q) (a .t .now) (at .loop .i) (search needs) (c .before .before .if1 .taken) (sym (e .ensures) ∙ not-false (e .result) (c .if2 .left))
+
+add-i : tie.Need-add-i Inv-loop μ-loop
+add-i c = let g = goes c in omega arith
+
+loop-less : tie.Need-loop-less Inv-loop μ-loop
+loop-less c = let g = goes c in omega arith
+
+loop-again : tie.Need-loop-again Inv-loop μ-loop
+loop-again c =
+    let g = goes c in
+    (g .within, sym (g .ends) ∙ c .before .before .before .before .before .before .loop .inv .1)
+
+loop-again-2 : tie.Need-loop-again-2 Inv-loop μ-loop
+loop-again-2 c =
+    let at = c .before .before .before .before in
+    let a = at .before .before .args in
+    let g = goes-byte (a .q) (a .t .now) (at .loop .i) (search needs) (c .if1 .left) in
+    (g .within, sym (g .ends) ∙ at .loop .inv .1)
+
+returns-2 : tie.Need-returns-2 Inv-loop μ-loop
+returns-2 c =
+    let at = c .before in
+    let a = at .before .before .args in
+    ap not (sym (ends-end (a .q) (a .t .now) (at .loop .i) (c .loop-test .left)) ∙ at .loop .inv .1)
+
+pub some-bad-spec : {M : Type 1} → statement M
+some-bad-spec =
+    tie.close
+    (tie.spec
+    Inv-loop
+    μ-loop
+    (λ c. search needs)
+    (λ c. search needs)
+    (λ c. search needs)
+    (λ c κs. search needs)
+    returns
+    add-i
+    loop-less
+    loop-again
+    (λ c. search needs)
+    (λ c. search needs)
+    loop-again-2
+    returns-2)

@@ -1,0 +1,3 @@
+pub mod Escape
+pub mod Step
+pub mod Promise

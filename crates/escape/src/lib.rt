@@ -1,0 +1,141 @@
+// Escapes: the test for a bad one, and the text that a person reads.
+ghost use mathlib.Core.Path.{_≡_};
+ghost use mathlib.Core.Bool.{false};
+ghost use Prim.Native.Nat.{_+_, _≤_};
+ghost use lib.ListN.{length, drop};
+ghost use Rattle.text.specs.Bytes.{every};
+ghost use Rattle.escape.specs.Escape.{badEscape, resolved};
+ghost use Rattle.escape.specs.Promise.{Resolves};
+ghost use Rattle.text.specs.Puts.{Puts};
+ghost use Rattle.escape.specs.Step.{isOther, isLetter, isEscape};
+use text::Marks;
+use text::Refusal;
+use text::Written;
+use text::usual_marks;
+
+// Whether this is the letter of one of the five escapes.
+fn is_letter(b: u8) -> bool
+    ensures { λ r. ⌜ r ≡ isLetter b ⌝ }
+{
+    (b == b'F') | ((b == b'S') | ((b == b'T') | ((b == b'R') | (b == b'E'))))
+}
+
+// The separator that a letter means.
+fn meant(q: Marks, b: u8) -> u8
+    ensures { λ r. ⌜ r ≡ Rattle.escape.specs.Step.meant q b ⌝ }
+{
+    match b {
+        b'F' => q.field,
+        b'S' => q.component,
+        b'T' => q.subcomponent,
+        b'R' => q.repetition,
+        _ => q.escape,
+    }
+}
+
+// Whether the \ just before i begins one of the five escapes.
+fn is_escape(q: Marks, t: &[u8], i: usize) -> bool
+    requires { ⌜ i ≤ length (now t) ⌝ }
+    ensures { λ r. ⌜ r ≡ isEscape (q .escape) (drop i (now (t .entry))) ⌝ }
+{
+    if t.len() - i < 2 {
+        return false;
+    }
+    is_letter(t[i]) & (t[i + 1] == q.escape)
+}
+
+// Whether a text has no such byte. No early way out, so that many bytes are tested at once.
+fn is_free(t: &[u8], mark: u8) -> bool
+    ensures { λ r. ⌜ r ≡ every (isOther mark) (now (t .entry)) ⌝ }
+{
+    let mut ok = true;
+    let mut i = 0;
+    while i < t.len() {
+        ok = ok & (t[i] != mark);
+        i += 1;
+    }
+    ok
+}
+
+// Whether some \ of the text begins none of the five escapes, escape by escape.
+fn some_bad(q: Marks, t: &[u8]) -> bool
+    ensures { λ r. ⌜ r ≡ badEscape q (now (t .entry)) ⌝ }
+{
+    let mut i = 0;
+    while i < t.len() {
+        if t[i] == q.escape {
+            if !is_escape(q, t, i + 1) {
+                return true;
+            }
+            i += 3;
+        } else {
+            i += 1;
+        }
+    }
+    false
+}
+
+// The same: most texts have no \ at all.
+pub fn bad_escape(q: Marks, t: &[u8]) -> bool
+    ensures { λ r. ⌜ r ≡ badEscape q (now (t .entry)) ⌝ }
+{
+    if is_free(t, q.escape) {
+        return false;
+    }
+    some_bad(q, t)
+}
+
+// How many bytes the resolved text has: with no bad escape, each \ that is read begins three bytes that stand for one.
+// Inner: the callers hold that there is no bad escape.
+pub fn resolved_len(q: Marks, t: &[u8]) -> usize
+    requires { ⌜ badEscape q (now t) ≡ false ⌝ }
+    ensures { λ r. ⌜ r ≡ length (resolved q (now (t .entry))) ⌝ }
+{
+    let mut n = 0;
+    let mut i = 0;
+    while i < t.len() {
+        n += 1;
+        if t[i] == q.escape {
+            i += 3;
+        } else {
+            i += 1;
+        }
+    }
+    n
+}
+
+// Puts the resolved text at a place, and answers where it ends. Inner: the callers hold that there is room and no bad escape.
+pub fn put_resolved(out: &mut [u8], at: usize, q: Marks, t: &[u8]) -> usize
+    requires { ⌜ (badEscape q (now t) ≡ false) × (at + length (resolved q (now t)) ≤ length (now out)) ⌝ }
+    ensures { λ r. ⌜ Puts (now (out .entry)) at (resolved q (now (t .entry))) (now (out .exit)) r ⌝ }
+{
+    let mut to = at;
+    let mut i = 0;
+    while i < t.len() {
+        let b = t[i];
+        if b == q.escape {
+            out[to] = meant(q, t[i + 1]);
+            to += 1;
+            i += 3;
+        } else {
+            out[to] = b;
+            to += 1;
+            i += 1;
+        }
+    }
+    to
+}
+
+// Resolves a text with the usual separators into the buffer. Both tests are done before a byte is written.
+pub fn resolve(text: &[u8], buffer: &mut [u8]) -> Written
+    ensures { λ r. ⌜ Resolves (now (text .entry)) (now (buffer .entry)) r (now (buffer .exit)) ⌝ }
+{
+    let q = usual_marks();
+    if bad_escape(q, text) {
+        return Written::Refused(Refusal::BadEscape);
+    }
+    if buffer.len() < resolved_len(q, text) {
+        return Written::Refused(Refusal::NoRoom);
+    }
+    Written::Bytes(put_resolved(buffer, 0, q, text))
+}

@@ -1,0 +1,22 @@
+-- Limits of lengths, and ranges of numbers.
+use Prim.Native.Nat.{ℕ}
+use mathlib.Core.Bool.{Bool, _&&_}
+use lib.ListN.{length}
+use lib.Dec.{leb, ltb}
+use Rattle.text.specs.Bytes.{Text}
+
+-- a limit counts written bytes
+abbrev pub tooLong : ℕ → Text → Bool
+tooLong limit t = ltb limit (length t)
+
+pub record Range : Type 0 where
+  pub low : ℕ
+  pub high : ℕ
+
+abbrev pub _to_ : ℕ → ℕ → Range
+_to_ a b = record { low = a; high = b }
+
+infix 80 _to_
+
+abbrev pub isWithin : Range → ℕ → Bool
+isWithin r n = leb (r .low) n && leb n (r .high)

@@ -1,0 +1,102 @@
+-- What a text of a simple type looks like, and what a stamp and a reply number are.
+use Prim.Native.Nat.{ℕ, _+_, _*_, _-_}
+use mathlib.Core.Bool.{Bool, true, false, _&&_, _||_}
+use mathlib.Core.List.{List, [], _∷_}
+use lib.ListN.{length, drop}
+use lib.Dec.{eqb, leb, ltb}
+use Rattle.text.specs.Limits.{Range, _to_, isWithin}
+use Rattle.text.specs.Bytes.{Text, pick, byte, digit, capitalOrDigit, empty, every}
+
+-- the digits that a text begins with, and what follows them
+unfoldable pub digits : Text → Text
+digits [] = []
+digits (b ∷ t) = pick (digit b) (b ∷ digits t) []
+
+unfoldable pub rest : Text → Text
+rest [] = []
+rest (b ∷ t) = pick (digit b) (rest t) (b ∷ t)
+
+abbrev pub begins : (ℕ → Bool) → Text → Bool
+begins p [] = false
+begins p (b ∷ t) = p b
+
+abbrev pub sign : ℕ → Bool
+sign b = eqb b (byte "+") || eqb b (byte "-")
+
+abbrev pub point : ℕ → Bool
+point b = eqb b (byte ".")
+
+-- SI: digits
+abbrev pub isSI : Text → Bool
+isSI t = every digit t
+
+-- a point and at least one digit, to the end
+abbrev pub isDecimals : Text → Bool
+isDecimals t = begins point t && begins digit (drop 1 t) && every digit (drop 1 t)
+
+-- at least one digit, then nothing, or the decimals
+abbrev pub isUnsigned : Text → Bool
+isUnsigned t = begins digit t && (empty (rest t) || isDecimals (rest t))
+
+-- NM: a sign or none, digits, and perhaps a point and digits
+abbrev pub isNM : Text → Bool
+isNM t = isUnsigned (pick (begins sign t) (drop 1 t) t)
+
+-- the number that two digits write
+abbrev pub two : ℕ → ℕ → ℕ
+two a b = (a - byte "0") * 10 + (b - byte "0")
+
+-- digits two by two, each two within the next range, for as long as there are digits
+unfoldable pub twos : List Range → Text → Bool
+twos [] [] = true
+twos [] (a ∷ t) = false
+twos (r ∷ rs) [] = true
+twos (r ∷ rs) (a ∷ []) = false
+twos (r ∷ rs) (a ∷ b ∷ t) = isWithin r (two a b) && twos rs t
+
+-- hour, minute, second; month and day before them; the hour and minute of a zone
+abbrev pub clock : List Range
+clock = 0 to 23 ∷ 0 to 59 ∷ 0 to 59 ∷ []
+
+abbrev pub calendar : List Range
+calendar = 1 to 12 ∷ 1 to 31 ∷ clock
+
+abbrev pub zone : List Range
+zone = 0 to 14 ∷ 0 to 59 ∷ []
+
+-- nothing, or a sign and HHMM
+abbrev pub isZone : Text → Bool
+isZone t = empty t || begins sign t && eqb (length t) 5 && every digit (drop 1 t) && twos zone (drop 1 t)
+
+-- a point, one to four digits, and the zone
+abbrev pub isFraction : Text → Bool
+isFraction t =
+    begins point t && isWithin (1 to 4) (length (digits (drop 1 t))) && isZone (rest (drop 1 t))
+
+-- DTM: YYYY[MM[DD[HH[MM[SS[.S[S[S[S]]]]]]]]] and the zone
+abbrev pub isDTM : Text → Bool
+isDTM t =
+    leb 4 (length (digits t))
+    && twos calendar (drop 4 (digits t))
+    && (isZone (rest t) || eqb (length (digits t)) 14 && isFraction (rest t))
+
+-- TM: HH[MM[SS[.S[S[S[S]]]]]] and the zone
+abbrev pub isTM : Text → Bool
+isTM t =
+    leb 2 (length (digits t))
+    && twos clock (digits t)
+    && (isZone (rest t) || eqb (length (digits t)) 6 && isFraction (rest t))
+
+-- a stamp: 14 digits that form a DTM
+abbrev pub isStamp : Text → Bool
+isStamp t = eqb (length t) 14 && every digit t && isDTM t
+
+-- a reply number: 1 to 20 capitals or digits
+abbrev pub isReplyNumber : Text → Bool
+isReplyNumber t = isWithin (1 to 20) (length t) && every capitalOrDigit t
+
+-- ranges from a list of low, high, low, high
+unfoldable pub rangesOf : List ℕ → List Range
+rangesOf [] = []
+rangesOf (a ∷ []) = []
+rangesOf (a ∷ b ∷ l) = a to b ∷ rangesOf l
