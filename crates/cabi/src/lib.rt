@@ -5,6 +5,7 @@ ghost use Rattle.cabi.specs.Promise.{JudgeTells, LookUpTells, ResolveTel
 mod place;
 mod tell;
 
+use escape::resolve;
 use place::place_asked;
 use reader::find;
 use reader::judge;
@@ -15,7 +16,6 @@ use tell::tell_found;
 use tell::tell_value;
 use tell::tell_verdict;
 use tell::tell_written;
-use escape::resolve;
 
 // Judges a message.
 #[no_mangle]

@@ -1,5 +1,6 @@
 pub mod Segments
 pub mod Frame
+pub mod Header
 pub mod Names
 pub mod Walk
 pub mod Order

@@ -100,3 +100,15 @@ module _ (q : Marks) (w : Numbers) (m : Text) (from to : ℕ) (l : from ≤ to) 
   reached-down (suc d) sep n found s k z r g =
       let e : suc d - 1 ≡ d = omega arith in
       (rw e at g) ∙ down d (rw (← s, ← k) found)
+
+-- nothing stands in no bytes
+pub piece-nil : (sep n : ℕ) → piece n (split sep []) ≡ []
+unfolding split
+piece-nil sep zero = refl
+piece-nil sep (suc zero) = refl
+piece-nil sep (suc (suc i)) = refl
+
+pub part-nil : (ss : List Step) → part false ss [] ≡ []
+unfolding part
+part-nil [] = refl
+part-nil (s ∷ ss) = rw (piece-nil (s .mark) (s .number)) (part-nil ss)

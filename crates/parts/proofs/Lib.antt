@@ -5,3 +5,4 @@ pub mod Reach
 pub mod Depth
 pub mod Sought
 pub mod Moving
+pub mod Members

@@ -5,9 +5,9 @@ ghost use Rattle.text.specs.Bytes.{isOne};
 ghost use Rattle.profile.specs.Table.{ofType, among};
 ghost use Rattle.profile.specs.Lists.{oneEach};
 ghost use Rattle.profile.specs.Numbers.{simpleOf, codesOf, segmentNumber, typeNumber};
+use text::is_same;
 use types::is_dtm;
 use types::is_nm;
-use text::is_same;
 use types::is_si;
 use types::is_tm;
 

@@ -21,13 +21,13 @@ use Rattle.frame.specs.Segments.{segments, ofName, fewer, occurrence, field}
 use Rattle.frame.specs.Told.{standing}
 use Rattle.frame.proofs.Seek.{standing-missing, standing-inside, standing-text}
 use Rattle.reader.specs.declared.Found as code-found
-use Rattle.reader.specs.Place.{place, leafAt, leafStart, textAt}
+use Rattle.checks.specs.Place.{place, leafAt, leafStart, textAt}
 use Rattle.reader.specs.LookUp.{Found, shown}
 use Rattle.reader.specs.Inner.{leafFound, Inside}
 use Rattle.reader.specs.Part.{startOf, endOf}
 use Rattle.reader.specs.Told.{foundOf}
 use Rattle.reader.specs.Copied.{Stood, segmentText}
-use Rattle.reader.proofs.Leaf.{piece-nil, part-nil}
+use Rattle.parts.proofs.Descent.{piece-nil, part-nil}
 use Rattle.reader.proofs.LookUp.{leaf-stands, shown-step}
 
 -- a segment stands in the message where it was found

@@ -12,14 +12,15 @@ use Rattle.text.specs.Marks.{marksOf}
 use Rattle.frame.specs.Segments.{name}
 use Rattle.profile.specs.Numbers.{segmentNumber, tableOf}
 use Rattle.reader.specs.declared.Verdict as code
-use Rattle.reader.specs.declared.segment.Finding.{Finding}
-use Rattle.reader.specs.declared.walk.Halt.{Halt}
-use Rattle.reader.specs.Place.{place}
-use Rattle.reader.specs.Fault.{accepted, fault}
+use Rattle.segments.specs.declared.Finding.{Finding}
+use Rattle.walk.specs.declared.Halt.{Halt}
+use Rattle.checks.specs.Place.{place}
+use Rattle.checks.specs.Fault.{accepted, fault}
 use Rattle.reader.specs.Told.{verdictOf}
-use Rattle.reader.specs.Judged.{toldAt, ReadsSegment, HasNumber, nameAt, countBefore, Here, numberAt, haltVerdict}
-use Rattle.reader.proofs.Breaks.{told-none, told-some}
-use Rattle.reader.proofs.Walking.{named-there, named-inside, three-bytes}
+use Rattle.segments.specs.Judged.{toldAt, ReadsSegment, HasNumber}
+use Rattle.walk.specs.Judged.{nameAt, countBefore, Here, numberAt, haltVerdict}
+use Rattle.fields.proofs.Breaks.{told-none, told-some}
+use Rattle.walk.proofs.Walking.{named-there, named-inside, three-bytes}
 
 -- the number of the name that stands there
 pub number-there : (m : Text) (start end k : ℕ) → Here m start end (numberAt m start end)

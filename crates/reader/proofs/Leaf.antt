@@ -19,9 +19,9 @@ use Rattle.parts.specs.declared.Numbers.{Numbers}
 use Rattle.parts.specs.Split.{split, piece, start}
 use Rattle.parts.specs.Descent.{Step, part, partStart, inField}
 use Rattle.parts.specs.Span.{span, stepsFrom}
-use Rattle.parts.proofs.Descent.{within-length, reached}
+use Rattle.parts.proofs.Descent.{within-length, reached, part-nil}
 use Rattle.frame.specs.Segments.{isHeader, field, fieldStart}
-use Rattle.reader.specs.Place.{leafAt, leafStart}
+use Rattle.checks.specs.Place.{leafAt, leafStart}
 use Rattle.reader.specs.LookUp.{Found, Empty, Text-from-to, shown}
 use Rattle.reader.specs.Inner.{leafFound, leafBehind}
 
@@ -53,18 +53,6 @@ pub within-behind : (m : Text) (start end k : ℕ) → within (start + k) end m 
 within-behind m start end k =
     let e : end - (start + k) ≡ end - start - k = omega arith in
     rw (e, ← drop-drop k start m) (sym (drop-take k (end - start) (drop start m)))
-
--- nothing stands in no bytes
-pub piece-nil : (sep n : ℕ) → piece n (split sep []) ≡ []
-unfolding split
-piece-nil sep zero = refl
-piece-nil sep (suc zero) = refl
-piece-nil sep (suc (suc i)) = refl
-
-pub part-nil : (ss : List Step) → part false ss [] ≡ []
-unfolding part
-part-nil [] = refl
-part-nil (s ∷ ss) = rw (piece-nil (s .mark) (s .number)) (part-nil ss)
 
 module _ (m : Text) (start end skip : ℕ) (l : start ≤ end) (h : end ≤ length m) (q : Marks) (n : Numbers) where
   pub behind-short : end - start < skip → Empty ≡ leafBehind q n start skip (within start end m)

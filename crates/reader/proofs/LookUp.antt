@@ -37,7 +37,7 @@ use Rattle.reader.specs.Inner.{leafFound}
 use Rattle.reader.specs.Told.{placeOf, foundOf}
 use Rattle.reader.specs.Inner.{Inside}
 use Rattle.reader.specs.Part.{VeryPart, startOf, endOf}
-use Rattle.reader.specs.Place.{Place, isPlace, leafAt, leafStart, textAt, startAt}
+use Rattle.checks.specs.Place.{Place, isPlace, leafAt, leafStart, textAt, startAt}
 
 pub leaf-stands : (q : Marks) (s : Text) (f r c b : ℕ) → Stands s (leafStart q s f r c b) (leafAt q s f r c b)
 unfolding leafAt leafStart

@@ -7,7 +7,7 @@ use Rattle.text.specs.declared.marks.Marks.{Marks}
 use Rattle.parts.specs.declared.Numbers.{Numbers}
 use Rattle.parts.specs.Descent.{part, partStart}
 use Rattle.parts.specs.Span.{stepsFrom}
-use Rattle.reader.specs.Place.{leafAt, leafStart}
+use Rattle.checks.specs.Place.{leafAt, leafStart}
 use Rattle.reader.specs.LookUp.{Found, shown}
 use Rattle.reader.specs.Part.{startOf, endOf}
 use Rattle.reader.specs.declared.Found as code-found

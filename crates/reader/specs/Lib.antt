@@ -1,11 +1,9 @@
-pub mod Place
+pub use Rattle.checks.specs.Place
+pub use Rattle.checks.specs.View
+pub use Rattle.checks.specs.Fault
 pub mod LookUp
-pub mod View
-pub mod Fault
 pub mod Told
 pub mod Part
 pub mod Promise
 pub mod Copied
 pub mod Inner
-pub mod Judged
-pub mod Onward

@@ -8,7 +8,7 @@ use Rattle.text.specs.Answer.{Answer, Test, test, first}
 use Rattle.text.specs.declared.refusal.Refusal.the-variants.{BadPlace, NoSegment}
 use Rattle.frame.specs.Frame.{frameTests}
 use Rattle.frame.specs.Segments.{fewer}
-use Rattle.reader.specs.Place.{Place, isPlace, textAt, startAt}
+use Rattle.checks.specs.Place.{Place, isPlace, textAt, startAt}
 
 pub data Found : Type 0 where
   Empty : Found

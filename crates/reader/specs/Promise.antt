@@ -7,7 +7,7 @@ use Rattle.profile.specs.Table.{Table}
 use Rattle.reader.specs.declared.search.LookedUp.{LookedUp}
 use Rattle.reader.specs.declared.Verdict.{Verdict}
 use Rattle.reader.specs.LookUp.{lookUp}
-use Rattle.reader.specs.Fault.{judge}
+use Rattle.checks.specs.Fault.{judge}
 use Rattle.reader.specs.Told.{placeOf, foundOf, verdictOf}
 use Rattle.reader.specs.Part.{VeryPart, startOf, endOf}
 

@@ -4,9 +4,9 @@ use Rattle.text.specs.Answer.{Answer, refused, given}
 use Rattle.reader.specs.declared.Place as code-place
 use Rattle.reader.specs.declared.Found as code-found
 use Rattle.reader.specs.declared.Verdict as code-verdict
-use Rattle.reader.specs.Place.{Place, place}
+use Rattle.checks.specs.Place.{Place, place}
 use Rattle.reader.specs.LookUp.{Found, Empty, Text-from-to}
-use Rattle.reader.specs.Fault.{Verdict, accepted, fault}
+use Rattle.checks.specs.Fault.{Verdict, accepted, fault}
 
 abbrev pub placeOf : code-place.Place → Place
 placeOf p =

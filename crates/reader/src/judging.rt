@@ -8,26 +8,26 @@ ghost use Rattle.frame.specs.Frame.{framed};
 ghost use Rattle.profile.specs.Numbers.{tableOf};
 ghost use Rattle.profile.specs.Order.{Sound};
 ghost use Rattle.profile.specs.Profile.{profile01};
-ghost use Rattle.reader.specs.Fault.{fault, verdict};
-ghost use Rattle.reader.specs.Place.{place};
+ghost use Rattle.checks.specs.Fault.{fault, verdict};
+ghost use Rattle.checks.specs.Place.{place};
 ghost use Rattle.reader.specs.Promise.{Judges};
 ghost use Rattle.reader.specs.Told.{verdictOf};
-ghost use Rattle.reader.specs.Judged.{nameAt, Here, haltVerdict, numberAt};
+ghost use Rattle.walk.specs.Judged.{nameAt, Here, haltVerdict, numberAt};
 use crate::Fault;
 use crate::Place;
 use crate::Verdict;
-use crate::listing::Listed;
-use crate::listing::next_listed;
-use crate::listing::occurrence_at;
-use crate::segment::Finding;
-use crate::segment::read_segment;
-use crate::walk::Halt;
-use crate::walk::header;
 use frame::Framing;
 use frame::check;
 use profile::profile;
 use profile::segment_number;
+use segments::Finding;
+use segments::read_segment;
 use text::marks_of;
+use walk::Halt;
+use walk::Listed;
+use walk::header;
+use walk::next_listed;
+use walk::occurrence_at;
 
 // A fault of the segment that starts there, of that occurrence of its name.
 fn fault_at(m: &[u8], start: usize, occurrence: u64, r: Finding) -> Verdict

@@ -1,19 +1,11 @@
 // Places, look-up and judging.
-mod conditions;
-mod field;
-mod flat;
 mod judging;
 mod leaves;
-mod listing;
 mod places;
-mod repetition;
-mod rule;
 mod search;
-mod segment;
 mod texts;
-mod walk;
 
-pub use conditions::condition;
+pub use checks::condition;
 pub use judging::judge;
 pub use places::is_place;
 pub use search::LookedUp;

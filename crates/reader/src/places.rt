@@ -1,7 +1,7 @@
 // Which places may be asked for.
 ghost use mathlib.Core.Path.{_≡_};
 ghost use Rattle.text.specs.Limits.{_to_, isWithin};
-ghost use Rattle.reader.specs.Place.{isPlace};
+ghost use Rattle.checks.specs.Place.{isPlace};
 ghost use Rattle.reader.specs.Told.{placeOf};
 use crate::Place;
 use frame::is_name;

@@ -2,7 +2,7 @@
 ghost use mathlib.Core.Path.{_≡_};
 ghost use Prim.Native.Nat.{_≤_};
 ghost use Rattle.text.specs.Marks.{marksOf};
-ghost use Rattle.reader.specs.Place.{leafAt};
+ghost use Rattle.checks.specs.Place.{leafAt};
 ghost use Rattle.reader.specs.Copied.{Stood, segmentText};
 use crate::leaves::leaf;
 use crate::search::text_of;

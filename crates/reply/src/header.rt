@@ -10,11 +10,11 @@ ghost use Rattle.text.specs.Puts.{Puts};
 ghost use Rattle.text.specs.Limits.{tooLong};
 ghost use Rattle.reply.specs.Reply.{orEmpty, copiedHD, processing, replyHeader};
 ghost use Rattle.reply.specs.Inner.{IsHeader, ended};
+use escape::bad_escape;
 use frame::Standing;
 use profile::is_in_list;
 use reader::text_in;
 use text::Marks;
-use escape::bad_escape;
 use text::marks_of;
 use text::put;
 

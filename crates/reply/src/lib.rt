@@ -25,10 +25,10 @@ use reader::judge;
 use reader::text_in;
 use text::Refusal;
 use text::Written;
-use types::is_reply_number;
-use types::is_stamp;
 use text::marks_of;
 use text::put;
+use types::is_reply_number;
+use types::is_stamp;
 
 // Whether the control number is Empty, over its limit or with a bad escape.
 fn has_no_control(m: &[u8], header: Standing) -> bool

@@ -160,12 +160,20 @@ some-flatMap k g f (x ∷ l) e =
     e
 
 module _ {A : Type 0} (p : A → Bool) where
-  -- what holds of each member holds of those further on, and of the one at an index
+  -- what holds of each member holds of those further on, of the first ones, and of the one at an index
   pub every-drop : (i : ℕ) (l : List A) → every p l ≡ true → every p (drop i l) ≡ true
   unfolding every
   every-drop zero l e = e
   every-drop (suc i) [] e = e
   every-drop (suc i) (x ∷ l) e = every-drop i l (both (p x) (every p l) e .1)
+
+  pub every-take : (i : ℕ) (l : List A) → every p l ≡ true → every p (take i l) ≡ true
+  unfolding every
+  every-take zero l e = refl
+  every-take (suc i) [] e = refl
+  every-take (suc i) (x ∷ l) e =
+      let h = both (p x) (every p l) e in
+      and-both (p x) (every p (take i l)) (h .0) (every-take i l (h .1))
 
   pub every-at : (l : List A) (i : ℕ) (d : A) → i < length l → every p l ≡ true → p (getD l i d) ≡ true
   unfolding every

@@ -17,6 +17,5 @@ abbrev pub _to_ : ℕ → ℕ → Range
 _to_ a b = record { low = a; high = b }
 
 infix 80 _to_
-
 abbrev pub isWithin : Range → ℕ → Bool
 isWithin r n = leb (r .low) n && leb n (r .high)

@@ -7,13 +7,13 @@ use native.Mathlib.Numerals.{add-one, unary-clauses}
 use native.Mathlib.Omega.{arith}
 use borrow.Author.Tests.{lt-ltb, leb-true}
 use lib.ListN.{length, getD, take, drop, drop-of-length-le, length-drop}
-use lib.Seq.{take-all, take-nil, drop-cons}
+use lib.Seq.{take-nil, drop-cons}
 use lib.Dec.{eqb, leb, ltb, eqb·zero-suc, eqb·suc-suc}
 use Rattle.text.specs.Bytes.{Text, pick, digit, empty, every}
 use Rattle.types.specs.Types.{digits, rest, begins, two, twos, rangesOf}
 use Rattle.text.specs.Limits.{Range, _to_, isWithin}
 use Rattle.text.proofs.Tests.{both}
-use Rattle.text.proofs.Lists.{every-drop, every-at, part-rest}
+use Rattle.text.proofs.Lists.{every-drop, part-rest}
 
 -- the digits are the text's front, and the rest is what follows them
 take-step : (b : ℕ) (t d : Text) (c : Bool) → take (length d) t ≡ d → take (length (pick c (b ∷ d) [])) (b ∷ t) ≡ pick c (b ∷ d) []

@@ -1,5 +1,5 @@
 -- `fault_at`: the name is the three bytes there.
-use Rattle.reader.proofs.Walking.{three-bytes}
+use Rattle.walk.proofs.Walking.{three-bytes}
 use borrow.Author.Needs.{needs}
 use Rattle.reader.proofs.judging.fault_at.Statement.{statement}
 use Rattle.reader.proofs.judging.fault_at.Tie as tie

@@ -2,8 +2,8 @@
 use borrow.Author.Needs.{needs}
 use native.Mathlib.Omega.{arith}
 use mathlib.Core.Logic.{⊎-elim}
-use Rattle.reader.specs.Judged.{numberAt}
-use Rattle.reader.proofs.Walking.{named-inside}
+use Rattle.walk.specs.Judged.{numberAt}
+use Rattle.walk.proofs.Walking.{named-inside}
 use Rattle.reader.proofs.Halted.{number-there, Tells, tells-again, tells-reason, halted-good, halted-fault}
 use Rattle.reader.proofs.judging.verdict_at.Statement.{statement}
 use Rattle.reader.proofs.judging.verdict_at.Tie as tie

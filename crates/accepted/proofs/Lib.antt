@@ -1,0 +1,5 @@
+pub mod Accepted
+pub mod AcceptedLeaf
+pub mod AcceptedRows
+pub mod Plain
+pub mod Patient

@@ -1,0 +1,115 @@
+-- The text at any place of a message with a good frame is of bytes 20 to 7E hex.
+use mathlib.Core.Path.{_≡_, refl}
+use Prim.Native.Nat.{ℕ, zero, suc}
+use mathlib.Core.Bool.{Bool, true, false}
+use mathlib.Core.List.{List, [], _∷_, dropLast}
+use lib.ListN.{take, drop}
+use lib.Dec.{eqb}
+use Rattle.text.specs.Bytes.{Text, pick, cr, printable, every}
+use Rattle.text.specs.declared.marks.Marks.{Marks}
+use Rattle.text.specs.Marks.{marksOf}
+use Rattle.text.proofs.Tests.{both}
+use Rattle.text.proofs.Lists.{and-both, or-false, All, all-keep, every-drop, every-take}
+use Rattle.parts.specs.Split.{front, split, piece, ended}
+use Rattle.parts.specs.Descent.{Step, cut, part, inField}
+use Rattle.frame.specs.Segments.{segments, named, ofName, isHeader, headerField, field, unsplit}
+use Rattle.frame.specs.Frame.{allowed, framed}
+use Rattle.frame.proofs.Frame.{framed-tests}
+use Rattle.checks.specs.Place.{Place, leafAt, textAt}
+
+-- every byte of a text passes a test; of each of some texts
+abbrev pub Each : (ℕ → Bool) → Text → Type 0
+Each p t = every p t ≡ true
+
+abbrev Eaches : (ℕ → Bool) → List Text → Type 0
+Eaches p ts = All (Each p) ts
+
+each-none : (p : ℕ → Bool) → Each p []
+unfolding every
+each-none p = refl
+
+each-more : (p : ℕ → Bool) (b : ℕ) (t : Text) → p b ≡ true → Each p t → Each p (b ∷ t)
+unfolding every
+each-more p b t e h = and-both (p b) (every p t) e h
+
+-- THE PIECES of a text whose bytes, but for its separators, pass a test
+module _ (p q : ℕ → Bool) (sep : ℕ) (between : (b : ℕ) → eqb b sep ≡ false → q b ≡ true → p b ≡ true) where
+  front-each : (c : Bool) (b : ℕ) (ps : List Text) → eqb b sep ≡ c → q b ≡ true → Eaches p ps → Eaches p (front c b ps)
+  front-each true b ps e h a = (each-none p, a)
+  front-each false b [] e h a = (each-more p b [] (between b e h) (each-none p), tt)
+  front-each false b (t ∷ ps) e h a = (each-more p b t (between b e h) (a .0), a .1)
+
+  split-between : (t : Text) → Each q t → Eaches p (split sep t)
+  unfolding split every
+  split-between [] e = (refl, tt)
+  split-between (b ∷ t) e =
+      let h = both (q b) (every q t) e in
+      front-each (eqb b sep) b (split sep t) refl (h .0) (split-between t (h .1))
+
+split-each : (p : ℕ → Bool) (sep : ℕ) (t : Text) → Each p t → Eaches p (split sep t)
+split-each p sep t e = split-between p p sep (λ b n h. h) t e
+
+piece-each : (p : ℕ → Bool) (n : ℕ) (ps : List Text) → Eaches p ps → Each p (piece n ps)
+piece-each p zero ps a = each-none p
+piece-each p (suc i) [] a = each-none p
+piece-each p (suc zero) (t ∷ ps) a = a .0
+piece-each p (suc (suc i)) (t ∷ ps) a = piece-each p (suc i) ps (a .1)
+
+-- each part of a text
+cut-each : (p : ℕ → Bool) (whole : Bool) (sep : ℕ) (t : Text) → Each p t → Eaches p (cut whole sep t)
+cut-each p true sep t e = (e, tt)
+cut-each p false sep t e = split-each p sep t e
+
+part-each : (p : ℕ → Bool) (whole : Bool) (ss : List Step) (t : Text) → Each p t → Each p (part whole ss t)
+unfolding part
+part-each p whole [] t e = e
+part-each p whole (s ∷ ss) t e =
+    part-each p whole ss (piece (s .number) (cut whole (s .mark) t))
+    (piece-each p (s .number) (cut whole (s .mark) t) (cut-each p whole (s .mark) t e))
+
+-- each field of a segment
+module _ (p : ℕ → Bool) (q : Marks) (s : Text) (e : Each p s) where
+  behind-each : (k n : ℕ) → Each p (piece n (split (q .field) (drop k s)))
+  behind-each k n =
+      piece-each p n (split (q .field) (drop k s)) (split-each p (q .field) (drop k s) (every-drop p k s e))
+
+  header-each : (f : ℕ) → Each p (headerField q s f)
+  header-each zero = each-none p
+  header-each (suc zero) = every-drop p 3 (take 4 s) (every-take p 4 s e)
+  header-each (suc (suc zero)) = every-drop p 4 (take 8 s) (every-take p 8 s e)
+  header-each (suc (suc (suc i))) = behind-each 9 (suc i)
+
+  field-step : (f : ℕ) (b : Bool) → Each p (pick b (headerField q s f) (piece f (split (q .field) (drop 4 s))))
+  field-step f true = header-each f
+  field-step f false = behind-each 4 f
+
+  field-each : (f : ℕ) → Each p (field q s f)
+  unfolding field
+  field-each f = field-step f (isHeader s)
+
+  leaf-each : (f r c b : ℕ) → Each p (leafAt q s f r c b)
+  unfolding leafAt
+  leaf-each f r c b = part-each p (unsplit s f) (inField q r c b) (field q s f) (field-each f)
+
+-- the segments of a message of allowed bytes
+last-each : (p : ℕ → Bool) (ps : List Text) → Eaches p ps → Eaches p (dropLast ps)
+last-each p [] a = tt
+last-each p (t ∷ []) a = tt
+last-each p (t ∷ u ∷ ps) a = (a .0, last-each p (u ∷ ps) (a .1))
+
+plain-byte : (b : ℕ) → eqb b cr ≡ false → allowed b ≡ true → printable b ≡ true
+plain-byte b n e = rw (n, or-false) at e
+
+segments-plain : (m : Text) → Each allowed m → Eaches printable (segments m)
+unfolding ended
+segments-plain m e = last-each printable (split cr m) (split-between printable allowed cr plain-byte m e)
+
+-- THE TEXT AT A PLACE
+pub text-plain : (m : Text) (p : Place) → framed m ≡ true → every printable (textAt m p) ≡ true
+unfolding textAt
+text-plain m p f =
+    let ss = ofName (p .name) (segments m) in
+    leaf-each printable (marksOf m) (piece (p .occurrence) ss)
+    (piece-each printable (p .occurrence) ss
+    (all-keep (Each printable) (named (p .name)) (segments m) (segments-plain m (framed-tests m f .bytes-allowed))))
+    (p .field) (p .repetition) (p .component) (p .subcomponent)

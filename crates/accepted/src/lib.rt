@@ -1,0 +1,1 @@
+// Laws of messages that are accepted: no code.

@@ -1,0 +1,52 @@
+-- `condition`: single numbers compute; the two ranges and the rest by the definition's tests.
+use native.Mathlib.Omega.{arith}
+use borrow.Author.Tests.{lt-ltb, le-ltb, ne-eqb}
+use Rattle.checks.proofs.condition.Statement.{statement}
+use Rattle.checks.proofs.condition.Tie as tie
+
+returns : tie.Need-returns
+returns c = rw (c .match .keys1)
+
+returns-2 : tie.Need-returns-2
+returns-2 c = rw (c .match .keys2)
+
+returns-3 : tie.Need-returns-3
+returns-3 c = rw (c .match .keys3)
+
+returns-4 : tie.Need-returns-4
+returns-4 c = rw (c .match .keys4)
+
+returns-5 : tie.Need-returns-5
+returns-5 c = rw (c .match .keys5)
+
+returns-6 : tie.Need-returns-6
+returns-6 c =
+    let n = c .before .before .args .reason in
+    rw (lt-ltb n 3 (omega (arith, c .if1 .taken)))
+
+returns-7 : tie.Need-returns-7
+returns-7 c =
+    let s = c .before .before in
+    let n = s .before .args .reason in
+    let r = s .match .rest in
+    rw (le-ltb n 3 (omega (arith, c .if2 .taken)), ne-eqb n 3 (r .0 .0 .0 .0 .1), lt-ltb n 8 (omega (arith, c .if2 .taken)))
+
+returns-8 : tie.Need-returns-8
+returns-8 c =
+    let s = c .before .before in
+    let n = s .before .args .reason in
+    let r = s .match .rest in
+    rw (
+      le-ltb n 3 (omega arith),
+      ne-eqb n 3 (r .0 .0 .0 .0 .1),
+      le-ltb n 8 (omega arith),
+      ne-eqb n 8 (r .0 .0 .0 .1),
+      ne-eqb n 9 (r .0 .0 .1),
+      ne-eqb n 10 (r .0 .1),
+      ne-eqb n 11 (r .1),
+    )
+
+pub condition-spec : {M : Type 1} → statement M
+condition-spec =
+    tie.close
+    (tie.spec returns returns-2 returns-3 returns-4 returns-5 returns-6 returns-7 returns-8)

@@ -1,0 +1,118 @@
+-- The checks of a message in the order of the walk. Its fault is the first that is broken; it is accepted where none is.
+use Prim.Native.Nat.{ℕ, suc}
+use mathlib.Core.Path.{_≡_}
+use mathlib.Core.Bool.{Bool, true, false, not, _&&_}
+use mathlib.Core.List.{List, [], _∷_, _++_, flatMap}
+use lib.ListN.{length}
+use lib.Dec.{eqb, ltb}
+use Rattle.text.specs.Bytes.{Text, pick, empty, some, keep, same}
+use Rattle.text.specs.Answer.{Answer, first}
+use Rattle.text.specs.First.{none, First}
+use Rattle.text.specs.declared.marks.Marks.{Marks}
+use Rattle.text.specs.Marks.{marksOf}
+use Rattle.escape.specs.Escape.{badEscape}
+use Rattle.text.specs.Limits.{tooLong}
+use Rattle.frame.specs.Frame.{frameTests}
+use Rattle.profile.specs.Table.{Table, Leaf, Usage, O, R, C, ofType, among, mayFollow, mayEnd}
+use Rattle.checks.specs.Place.{Place, place}
+use Rattle.checks.specs.View.{Entry, Repetition, Field, Segment, view}
+
+pub record Check : Type 0 where
+  pub place : Place
+  pub reason : ℕ
+  pub broken : Bool
+
+abbrev pub check : Place → ℕ → Bool → Check
+check p n b = record { place = p; reason = n; broken = b }
+
+-- A LEAF'S OWN RULE: Empty passes unless it is starred; else too long, bad escape, not of its type, not in its list
+abbrev pub leafChecks : Marks → Place → Leaf → Text → List Check
+leafChecks q p l t =
+    check p 3 (empty t && l .star)
+    ∷ check p 5 (tooLong (l .limit) t)
+    ∷ check p 6 (badEscape q t)
+    ∷ check p 7 (not (empty t) && not (ofType (l .type) t))
+    ∷ check p (l .reason) (not (empty t) && not (among (l .list) t))
+    ∷ []
+
+-- the leaves of a filled repetition, rising
+abbrev pub repetitionChecks : Marks → Text → ℕ → ℕ → Repetition → List Check
+repetitionChecks q n o f r =
+    flatMap
+    (λ (e : Entry).
+    leafChecks q (place n o f (r .number) (e .leaf .component) (e .leaf .subcomponent)) (e .leaf) (e .text))
+    (r .entries)
+
+-- the first repetition is one of the filled ones
+abbrev pub startsFilled : List Repetition → Bool
+startsFilled rs = some (λ (r : Repetition). eqb (r .number) 1) rs
+
+abbrev pub firstFilled : Field → Bool
+firstFilled v = startsFilled (v .filled)
+
+-- required, given the segment's listed fields
+abbrev pub isRequired : Usage → List Field → Bool
+isRequired O vs = false
+isRequired R vs = true
+isRequired (C f) vs = some (λ (v : Field). eqb (v .rule .field) f && firstFilled v) vs
+
+-- a field: too many repetitions, at the first surplus one; missing, at repetition 1; then each filled repetition
+abbrev pub fieldChecks : Marks → Text → ℕ → List Field → Field → List Check
+fieldChecks q n o vs v =
+    let f = v .rule .field in
+    check (place n o f (suc (v .rule .repetitions)) 0 0) 4 (v .surplus)
+    ∷ check (place n o f 1 0 0) 3 (isRequired (v .rule .usage) vs && not (firstFilled v))
+    ∷ flatMap (repetitionChecks q n o f) (v .filled)
+
+-- how many of those are that name
+abbrev pub count : Text → List Text → ℕ
+count n ns = length (keep (same n) ns)
+
+-- the segments from here on, given the names of the listed ones before and the last of these; then the end
+unfoldable pub walk : Table → Marks → List Text → Text → List Segment → List Check
+walk T q ns last [] = check (place last (count last ns) 0 0 0 0) 2 (not (mayEnd T last)) ∷ []
+walk T q ns last (s ∷ ss) =
+    let n = s .name in
+    let o = suc (count n ns) in
+    check (place n o 0 0 0 0) 1 (not (mayFollow T last n))
+    ∷ (flatMap (fieldChecks q n o (s .fields)) (s .fields) ++ walk T q (n ∷ ns) n ss)
+
+-- THE CHECKS
+unfoldable pub checks : Table → Text → List Check
+checks T m = walk T (marksOf m) [] [] (view T m)
+
+pub data Verdict : Type 0 where
+  accepted : Verdict
+  fault : Place → ℕ → Verdict
+
+-- the first broken one
+unfoldable pub firstBroken : List Check → Verdict
+firstBroken [] = accepted
+firstBroken (c ∷ cs) = pick (c .broken) (fault (c .place) (c .reason)) (firstBroken cs)
+
+-- said as such: none of them is broken; the first broken one has that place and reason
+abbrev pub isBroken : Check → Bool
+isBroken c = c .broken
+
+abbrev pub noneBroken : List Check → Bool
+noneBroken cs = none isBroken cs
+
+pub record FirstBroken (cs : List Check) (p : Place) (n : ℕ) : Type 0 where
+  pub found : Check
+  pub first : First isBroken cs found
+  pub place : found .place ≡ p
+  pub reason : found .reason ≡ n
+
+-- the verdict on a message whose frame is good
+unfoldable pub verdict : Table → Text → Verdict
+verdict T m = firstBroken (checks T m)
+
+-- JUDGING: 1 to 8, or the verdict
+unfoldable pub judge : Table → Text → Answer Verdict
+judge T m = first (frameTests m) (verdict T m)
+
+-- the condition code of a reason
+abbrev pub condition : ℕ → ℕ
+condition n =
+    pick (ltb n 3) 100 (pick (eqb n 3) 101 (pick (ltb n 8) 102 (pick (eqb n 8) 103
+    (pick (eqb n 9) 200 (pick (eqb n 10) 201 (pick (eqb n 11) 202 203))))))

@@ -1,0 +1,19 @@
+// Condition codes.
+ghost use mathlib.Core.Path.{_≡_};
+ghost use Rattle.checks.specs.Fault;
+
+// The condition code of a reason.
+pub fn condition(reason: u8) -> u16
+    ensures { λ r. ⌜ r ≡ Fault.condition reason ⌝ }
+{
+    match reason {
+        0..=2 => 100,
+        3 => 101,
+        4..=7 => 102,
+        8 => 103,
+        9 => 200,
+        10 => 201,
+        11 => 202,
+        _ => 203,
+    }
+}

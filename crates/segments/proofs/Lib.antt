@@ -1,0 +1,5 @@
+pub mod FieldText
+pub mod FieldLeaves
+pub mod FieldChecks
+pub mod SegmentFields
+pub mod SegmentReading

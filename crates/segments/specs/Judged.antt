@@ -1,0 +1,43 @@
+-- What only inner functions promise of judging a segment: the first broken check of its fields.
+use Prim.Native.Nat.{ℕ, _≤_}
+use mathlib.Core.Path.{_≡_}
+use mathlib.Core.List.{List, flatMap}
+use Rattle.text.specs.Bytes.{Text}
+use Rattle.text.specs.declared.marks.Marks.{Marks}
+use Rattle.frame.specs.Segments.{name}
+use Rattle.profile.specs.Table.{Leaf, Table, leavesOf}
+use Rattle.profile.specs.Numbers.{segmentNumber, tableOf}
+use Rattle.profile.specs.Inner.{ruleAt}
+use Rattle.segments.specs.declared.Finding.{Finding}
+use Rattle.checks.specs.Place.{place}
+use Rattle.checks.specs.View.{Field, namedIn, fieldSeen, segmentSeen}
+use Rattle.checks.specs.Fault.{Verdict, fieldChecks, firstBroken}
+use Rattle.fields.specs.Judged.{told}
+
+-- A SEGMENT: the first broken check of its listed fields
+abbrev pub toldAt : Text → ℕ → Finding → Verdict
+toldAt n o r = told (place n o (r .field) (r .repetition) (r .component) (r .subcomponent)) (r .reason)
+
+abbrev pub atRepetition : ℕ → ℕ → ℕ → Finding
+atRepetition n f r = record { reason = n; field = f; repetition = r; component = 0; subcomponent = 0 }
+
+abbrev pub fieldsSeen : List ℕ → Marks → Text → List Field
+fieldsSeen t q s = segmentSeen (tableOf t) q s .fields
+
+abbrev pub ReadsSegment : Marks → Table → Text → Finding → Type 0
+ReadsSegment q T s r =
+    (n : Text) (o : ℕ) → toldAt n o r ≡ firstBroken (flatMap (fieldChecks q n o (segmentSeen T q s .fields)) (segmentSeen T q s .fields))
+
+-- the leaves that a field with those rows lists
+abbrev pub leavesOfField : Marks → List ℕ → Text → ℕ → ℕ → List Leaf
+leavesOfField q t s at end = leavesOf (tableOf t) (namedIn q s) (ruleAt t at end)
+
+-- A FIELD OF A SEGMENT: its first broken check
+abbrev pub ReadsFieldAt : Marks → List ℕ → Text → ℕ → ℕ → Finding → Type 0
+ReadsFieldAt q t s at end r =
+    (n : Text) (o : ℕ)
+    → toldAt n o r ≡ firstBroken (fieldChecks q n o (fieldsSeen t q s) (fieldSeen (tableOf t) q s (ruleAt t at end)))
+
+-- the segment has the name of that number
+abbrev pub HasNumber : Text → ℕ → Type 0
+HasNumber s k = (segmentNumber (name s) ≡ k) × (1 ≤ k)
