@@ -6,7 +6,12 @@ use mathlib.Core.Bool.{Bool, true, false}
 use mathlib.Core.List.{List, [], _∷_}
 use borrow.Author.Tests.{ne-eqb}
 use Rattle.text.specs.Bytes.{Text, pick, some}
-use Rattle.checks.specs.View.{Entry, Repetition, isFilled, filledFrom}
+use Rattle.text.specs.declared.marks.Marks.{Marks}
+use Rattle.parts.specs.Descent.{inRepetition}
+use Rattle.parts.proofs.Descent.{part-nil}
+use Rattle.profile.specs.Table.{Leaf}
+use Rattle.checks.specs.Place.{leafOf}
+use Rattle.checks.specs.View.{Entry, Repetition, entriesOf, isFilled, filledFrom}
 use Rattle.checks.specs.Fault.{startsFilled}
 
 -- a repetition that is not the first does not fill the first
@@ -21,3 +26,12 @@ unfolding filledFrom some
 late-none k read [] h = refl
 late-none k read (t ∷ ts) h =
     late-step (isFilled (read t)) k (read t) (filledFrom (suc k) read ts) h (late-none (suc k) read ts (omega arith))
+
+-- no leaf stands in no bytes, and none behind the last component
+pub no-leaf : (q : Marks) (c b : ℕ) → leafOf q false [] c b ≡ []
+no-leaf q c b = part-nil (inRepetition q c b)
+
+pub none-filled : (q : Marks) (ls : List Leaf) → isFilled (entriesOf q false ls []) ≡ false
+unfolding some
+none-filled q [] = refl
+none-filled q (l ∷ ls) = rw (no-leaf q (l .component) (l .subcomponent)) (none-filled q ls)

@@ -1,3 +1,4 @@
 pub mod Place
 pub mod View
 pub mod Fault
+pub mod Cases

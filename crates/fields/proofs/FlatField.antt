@@ -28,7 +28,8 @@ use Rattle.fields.specs.declared.repetition.ReadRepetition.{ReadRepetiti
 use Rattle.checks.specs.Place.{Place, place}
 use Rattle.checks.specs.Fault.{leafChecks, firstBroken}
 use Rattle.fields.specs.Judged.{told, isPlain, isFlat, passed, passedOnce, ReadsRepetition, ReadsField}
-use Rattle.fields.proofs.LeafByLeaf.{Left, Reading, none-filled, reading-judged}
+use Rattle.fields.proofs.LeafByLeaf.{Left, Reading, reading-judged}
+use Rattle.checks.proofs.Filled.{none-filled}
 use Rattle.fields.proofs.Breaks.{told-none}
 use Rattle.fields.proofs.Repeats.{repeats-first, repeats-read, repeats-last}
 

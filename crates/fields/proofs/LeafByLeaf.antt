@@ -15,7 +15,7 @@ use Rattle.text.proofs.Lists.{or-assoc, or-false}
 use Rattle.parts.specs.declared.cursor.Cursor.{Cursor}
 use Rattle.parts.specs.declared.Span.{Span}
 use Rattle.parts.specs.Split.{split, piece, start}
-use Rattle.parts.specs.Descent.{part, step, inRepetition}
+use Rattle.parts.specs.Descent.{part, step}
 use Rattle.parts.specs.Span.{span, IsPiece}
 use Rattle.parts.proofs.Split.{piece-le}
 use Rattle.parts.proofs.Descent.{within-piece}
@@ -26,6 +26,7 @@ use Rattle.profile.specs.Numbers as row
 use Rattle.profile.specs.Inner.{Ascends, next, Lists, leavesAt}
 use Rattle.fields.specs.declared.repetition.ReadRepetition.{ReadRepetition}
 use Rattle.checks.specs.Place.{Place, place, leafOf}
+use Rattle.checks.proofs.Filled.{none-filled, no-leaf}
 use Rattle.checks.specs.View.{entriesOf, isFilled}
 use Rattle.checks.specs.Fault.{Verdict, accepted, fault, leafChecks, repetitionChecks, firstBroken}
 use Rattle.fields.specs.Judged.{told, ReadsRepetition}
@@ -37,15 +38,6 @@ use Rattle.fields.proofs.Breaks.{orElse, or-else-none, broken-flat, tol
 -- the first broken check of these leaves
 abbrev pub broken : Marks → List Leaf → Text → Text → ℕ → ℕ → ℕ → Verdict
 broken q ls s n o f k = firstBroken (repetitionChecks q n o f (record { number = k; entries = entriesOf q false ls s }))
-
--- no leaf stands in no bytes, and none behind the last component
-no-leaf : (q : Marks) (c b : ℕ) → leafOf q false [] c b ≡ []
-no-leaf q c b = part-nil (inRepetition q c b)
-
-pub none-filled : (q : Marks) (ls : List Leaf) → isFilled (entriesOf q false ls []) ≡ false
-unfolding some
-none-filled q [] = refl
-none-filled q (l ∷ ls) = rw (no-leaf q (l .component) (l .subcomponent)) (none-filled q ls)
 
 length-none : (t : Text) (n : ℕ) → n ≡ n + length t → t ≡ []
 length-none [] n e = refl

@@ -4,5 +4,4 @@ pub mod Header
 pub mod Names
 pub mod Walk
 pub mod Order
-pub mod Seek
 pub mod Unique

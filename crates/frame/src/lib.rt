@@ -1,11 +1,9 @@
-// The eight frame checks; segments, their names and their occurrences.
+// The eight frame checks; segments and their names.
 mod checks;
 mod segment;
 
 pub use checks::Framing;
 pub use checks::check;
-pub use segment::Standing;
 pub use segment::has_name;
 pub use segment::is_header;
 pub use segment::is_name;
-pub use segment::occurrence;

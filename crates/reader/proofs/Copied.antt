@@ -15,11 +15,11 @@ use Rattle.parts.specs.Split.{piece}
 use Rattle.parts.specs.Descent.{inField}
 use Rattle.parts.proofs.Split.{Stands, stands-in}
 use Rattle.parts.proofs.Descent.{within-length}
-use Rattle.frame.specs.declared.segment.Standing.{Standing}
-use Rattle.frame.specs.declared.segment.Standing.the-variants.{Missing, Segment}
+use Rattle.reader.specs.declared.standing.Standing.{Standing}
+use Rattle.reader.specs.declared.standing.Standing.the-variants.{Missing, Segment}
 use Rattle.frame.specs.Segments.{segments, ofName, fewer, occurrence, field}
-use Rattle.frame.specs.Told.{standing}
-use Rattle.frame.proofs.Seek.{standing-missing, standing-inside, standing-text}
+use Rattle.reader.specs.Copied.{standing}
+use Rattle.reader.proofs.Seek.{standing-missing, standing-inside, standing-text}
 use Rattle.reader.specs.declared.Found as code-found
 use Rattle.checks.specs.Place.{place, leafAt, leafStart, textAt}
 use Rattle.reader.specs.LookUp.{Found, shown}
@@ -28,7 +28,8 @@ use Rattle.reader.specs.Part.{startOf, endOf}
 use Rattle.reader.specs.Told.{foundOf}
 use Rattle.reader.specs.Copied.{Stood, segmentText}
 use Rattle.parts.proofs.Descent.{piece-nil, part-nil}
-use Rattle.reader.proofs.LookUp.{leaf-stands, shown-step}
+use Rattle.checks.proofs.Stands.{leaf-stands}
+use Rattle.reader.proofs.LookUp.{shown-step}
 
 -- a segment stands in the message where it was found
 within-stands : (m : Text) (a e : ℕ) → a ≤ e → e ≤ length m → Stands m a (within a e m)

@@ -10,7 +10,7 @@ use Rattle.text.specs.Answer.{refused, given, Test, first}
 use Rattle.text.specs.declared.refusal.Refusal.{Refusal}
 use Rattle.text.proofs.Answer.{first-refused, first-given, given-passes}
 use Rattle.frame.specs.Segments.{segments, name}
-use Rattle.frame.specs.Frame.{header, frameTests, framed}
+use Rattle.frame.specs.Frame.{frameTests, framed}
 use Rattle.frame.specs.Told.{framingOf}
 use Rattle.frame.specs.declared.checks.Framing.{Framing}
 use Rattle.frame.specs.declared.checks.Framing.the-variants as framing

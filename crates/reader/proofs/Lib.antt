@@ -1,7 +1,10 @@
+pub use Rattle.checks.proofs.Stands
+pub use Rattle.checks.proofs.Filled
 pub use Rattle.accepted.proofs.Accepted
 pub use Rattle.accepted.proofs.AcceptedRows
 pub use Rattle.accepted.proofs.Plain
 pub use Rattle.accepted.proofs.Patient
+pub mod Seek
 pub mod LookUp
 pub mod Leaf
 pub mod Part

@@ -16,20 +16,17 @@ use Rattle.text.specs.declared.refusal.Refusal.{Refusal}
 use Rattle.text.specs.declared.refusal.Refusal.the-variants.{BadPlace, NoSegment}
 use Rattle.text.specs.declared.marks.Marks.{Marks}
 use Rattle.text.specs.Marks.{marksOf}
-use Rattle.parts.specs.Descent.{part, partStart, inField}
 use Rattle.parts.specs.declared.Numbers.{Numbers}
-use Rattle.parts.proofs.Split.{Stands, stands-in}
-use Rattle.parts.proofs.Descent.{part-stands}
-use Rattle.frame.specs.Segments.{isName, occurrence, occurrenceStart, field, fieldStart, unsplit}
+use Rattle.frame.specs.Segments.{isName, occurrence, field}
 use Rattle.text.proofs.Answer.{first-refused, first-through, first-asked}
 use Rattle.frame.specs.declared.checks.Framing.{Framing}
 use Rattle.frame.specs.declared.checks.Framing.the-variants as framing
 use Rattle.frame.specs.Frame.{frameTests}
-use Rattle.frame.specs.declared.segment.Standing.{Standing}
-use Rattle.frame.specs.declared.segment.Standing.the-variants.{Missing, Segment}
-use Rattle.frame.specs.Told.{framingOf, standing}
-use Rattle.frame.proofs.Segments.{occurrence-stands, field-stands}
-use Rattle.frame.proofs.Seek.{standing-missing, standing-enough, standing-start, standing-inside, standing-text}
+use Rattle.reader.specs.declared.standing.Standing.{Standing}
+use Rattle.reader.specs.declared.standing.Standing.the-variants.{Missing, Segment}
+use Rattle.frame.specs.Told.{framingOf}
+use Rattle.reader.specs.Copied.{standing}
+use Rattle.reader.proofs.Seek.{standing-missing, standing-enough, standing-start, standing-inside, standing-text}
 use Rattle.reader.specs.declared.Place as code
 use Rattle.reader.specs.declared.Found as code-found
 use Rattle.reader.specs.LookUp.{Found, Text-from-to, shown, found, tooFew, lookUpTests, lookUp}
@@ -37,26 +34,8 @@ use Rattle.reader.specs.Inner.{leafFound}
 use Rattle.reader.specs.Told.{placeOf, foundOf}
 use Rattle.reader.specs.Inner.{Inside}
 use Rattle.reader.specs.Part.{VeryPart, startOf, endOf}
-use Rattle.checks.specs.Place.{Place, isPlace, leafAt, leafStart, textAt, startAt}
-
-pub leaf-stands : (q : Marks) (s : Text) (f r c b : ℕ) → Stands s (leafStart q s f r c b) (leafAt q s f r c b)
-unfolding leafAt leafStart
-leaf-stands q s f r c b =
-    let t = field q s f in
-    stands-in s (fieldStart q s f) t (partStart (unsplit s f) (inField q r c b) t) (part (unsplit s f) (inField q r c b) t)
-    (field-stands q s f) (part-stands (unsplit s f) (inField q r c b) t)
-
--- THE LAW that ties a place's text to its start
-pub text-stands : (m : Text) (p : Place) → Stands m (startAt m p) (textAt m p)
-unfolding textAt startAt
-text-stands m p =
-    let s = occurrence m (p .name) (p .occurrence) in
-    let q = marksOf m in
-    stands-in m (occurrenceStart m (p .name) (p .occurrence)) s
-    (leafStart q s (p .field) (p .repetition) (p .component) (p .subcomponent))
-    (leafAt q s (p .field) (p .repetition) (p .component) (p .subcomponent))
-    (occurrence-stands m (p .name) (p .occurrence))
-    (leaf-stands q s (p .field) (p .repetition) (p .component) (p .subcomponent))
+use Rattle.checks.proofs.Stands.{text-stands}
+use Rattle.checks.specs.Place.{Place, isPlace, textAt, startAt}
 
 -- the text that an answer names lies in the message
 pub shown-step : (k a e : ℕ) (t : Text) → Text-from-to a e ≡ shown k t → (a ≡ k) × ((e ≡ k + length t) × (0 < length t))

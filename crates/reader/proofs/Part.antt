@@ -16,7 +16,8 @@ use Rattle.reader.specs.LookUp.{Text-from-to, found, lookUpTests, lookUp
 use Rattle.reader.specs.Told.{placeOf, foundOf}
 use Rattle.reader.specs.Part.{startOf, endOf}
 use Rattle.reader.specs.Promise.{LooksUp}
-use Rattle.reader.proofs.LookUp.{shown-step, text-stands}
+use Rattle.checks.proofs.Stands.{text-stands}
+use Rattle.reader.proofs.LookUp.{shown-step}
 
 -- the bytes from the start up to the end of a text that is found are the text at that place
 found-text : (m : Text) (p : Place) (a e : ℕ) → given (Text-from-to a e) ≡ lookUp m p → within a e m ≡ textAt m p

@@ -1,10 +1,16 @@
--- What copying the leaf of a segment takes. Only inner functions ask and promise it.
-use Prim.Native.Nat.{_≤_}
+-- Where a segment stands, and what copying one of its leaves takes. Only inner functions ask and promise it.
+use Prim.Native.Nat.{ℕ, _+_, _≤_}
 use mathlib.Core.List.{[]}
 use lib.ListN.{length}
-use Rattle.text.specs.Bytes.{Text, within}
-use Rattle.frame.specs.declared.segment.Standing.{Standing}
-use Rattle.frame.specs.declared.segment.Standing.the-variants.{Missing, Segment}
+use Rattle.text.specs.Bytes.{Text, pick, within}
+use Rattle.frame.specs.Segments.{fewer, occurrence, occurrenceStart}
+use Rattle.reader.specs.declared.standing.Standing.{Standing}
+use Rattle.reader.specs.declared.standing.Standing.the-variants.{Missing, Segment}
+
+-- where occurrence o of a name stands
+abbrev pub standing : Text → Text → ℕ → Standing
+standing m n o =
+    pick (fewer m n o) Missing (Segment (occurrenceStart m n o) (occurrenceStart m n o + length (occurrence m n o)))
 
 -- the segment lies in the message
 abbrev pub Stood : Text → Standing → Type 0

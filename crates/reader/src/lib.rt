@@ -3,6 +3,7 @@ mod judging;
 mod leaves;
 mod places;
 mod search;
+mod standing;
 mod texts;
 
 pub use checks::condition;
@@ -11,7 +12,10 @@ pub use places::is_place;
 pub use search::LookedUp;
 pub use search::find;
 pub use search::look_up;
+pub use standing::Standing;
+pub use standing::occurrence;
 use text::Refusal;
+pub use texts::is_processing_id;
 pub use texts::text_in;
 
 // A place: the name's three bytes, and the numbers as they are asked, of any size.

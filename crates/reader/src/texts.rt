@@ -1,13 +1,16 @@
 // The texts of a segment's leaves, for those who copy them.
 ghost use mathlib.Core.Path.{_≡_};
 ghost use Prim.Native.Nat.{_≤_};
+ghost use Rattle.text.specs.Bytes.{isOne};
 ghost use Rattle.text.specs.Marks.{marksOf};
+ghost use Rattle.profile.specs.Lists.{processing-ids};
 ghost use Rattle.checks.specs.Place.{leafAt};
 ghost use Rattle.reader.specs.Copied.{Stood, segmentText};
 use crate::leaves::leaf;
 use crate::search::text_of;
-use frame::Standing;
+use crate::standing::Standing;
 use parts::Numbers;
+use profile::is_in_list;
 use text::marks_of;
 
 // The first leaf of a component, in the first repetition of a field: no bytes where it is Empty or the segment is missing.
@@ -28,4 +31,11 @@ pub fn text_in<'a>(m: &'a [u8], s: Standing, field: u64, component: u64) -> &'a 
             text_of(m, leaf(m, start, end, marks_of(m), n))
         }
     }
+}
+
+// Whether a text may stand as the processing id, MSH-11.1.
+pub fn is_processing_id(t: &[u8]) -> bool
+    ensures { λ r. ⌜ r ≡ isOne (now (t .entry)) processing-ids ⌝ }
+{
+    is_in_list(3, t)
 }

@@ -8,10 +8,10 @@ use native.Mathlib.Omega.{arith}
 use lib.ListN.{length, drop}
 use Rattle.text.specs.Bytes.{cr}
 use Rattle.parts.specs.Split.{reach}
-use Rattle.frame.specs.Told.{standing}
-use Rattle.frame.proofs.Seek.{Sought, sought-first, sought-this, sought-another, sought-other, sought-none}
-use Rattle.frame.proofs.segment.occurrence.Statement.{statement}
-use Rattle.frame.proofs.segment.occurrence.Tie as tie
+use Rattle.reader.specs.Copied.{standing}
+use Rattle.reader.proofs.Seek.{Sought, sought-first, sought-this, sought-another, sought-other, sought-none}
+use Rattle.reader.proofs.standing.occurrence.Statement.{statement}
+use Rattle.reader.proofs.standing.occurrence.Tie as tie
 
 abbrev Inv-loop : tie.InvT-loop
 Inv-loop m a b c number left₀ start₀ end₀ left start end =

@@ -12,11 +12,11 @@ use Rattle.parts.specs.Split.{before, reach}
 use Rattle.parts.proofs.Split.{before-first, before-le, stands-le}
 use Rattle.parts.proofs.Descent.{within-length}
 use Rattle.parts.proofs.Reach.{ended-on, before-on, ended-end}
-use Rattle.frame.specs.declared.segment.Standing.{Standing}
-use Rattle.frame.specs.declared.segment.Standing.the-variants.{Missing, Segment}
+use Rattle.reader.specs.declared.standing.Standing.{Standing}
+use Rattle.reader.specs.declared.standing.Standing.the-variants.{Missing, Segment}
 use Rattle.frame.specs.Segments.{segments, named, ofName, ahead, occurrence, occurrenceStart, fewer}
-use Rattle.frame.specs.Told.{standing}
+use Rattle.reader.specs.Copied.{standing}
 use Rattle.frame.proofs.Segments.{occurrence-stands}
 
 -- the segment of a name that has i of that name before it, among those from a place on
 abbrev from-here : Text → Text → ℕ → List Text → ℕ → Standing

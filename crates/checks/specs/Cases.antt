@@ -1,0 +1,82 @@
+-- Verdicts on short messages, each the shortest that a wrong reading of 01 would judge otherwise.
+use Prim.Native.Nat.{ℕ}
+use Prim.Native.String.{String}
+use mathlib.Core.Path.{_≡_}
+use mathlib.Core.List.{List, [], _∷_, map}
+use Rattle.text.specs.Bytes.{Text, bytes, cr}
+use Rattle.parts.specs.Split.{closed}
+use Rattle.profile.specs.Profile.{profile01}
+use Rattle.checks.specs.Place.{place}
+use Rattle.checks.specs.Fault.{Verdict, accepted, fault, verdict}
+
+pub record Case : Type 0 where
+  pub lines : List String
+  pub said : Verdict
+
+abbrev pub _is_ : List String → Verdict → Case
+_is_ ls v = record { lines = ls; said = v }
+
+infix 60 _is_
+abbrev pub message : Case → Text
+message c = closed cr (map bytes (c .lines))
+
+abbrev pub told : Case → Verdict
+told c = verdict profile01 (message c)
+
+abbrev pub wanted : Case → Verdict
+wanted c = c .said
+
+-- four segments with no more than they must have
+abbrev pub msh : String
+msh = "MSH|^~\\&||L|||2024||ORU^R01|C|P|2.5.1"
+
+abbrev pub pid : String
+pid = "PID|||A||B||2024"
+
+abbrev pub obr : String
+obr = "OBR|1||F|S|||2024"
+
+abbrev pub obx : String
+obx = "OBX|1||T||||||||F"
+
+abbrev pub at : String → ℕ → ℕ → ℕ → ℕ → ℕ → ℕ → Verdict
+at n o f r c b reason = fault (place (bytes n) o f r c b) reason
+
+abbrev pub withPID : String → List String
+withPID s = msh ∷ s ∷ obr ∷ obx ∷ []
+
+abbrev pub withOBX : String → List String
+withOBX s = msh ∷ pid ∷ obr ∷ s ∷ []
+
+abbrev pub cases : List Case
+cases =
+    (withOBX obx is accepted)
+    -- a bad escape in a segment, a field, a component and a subcomponent that the table does not list
+    ∷ (msh ∷ pid ∷ "ZZX|a\\b" ∷ obr ∷ obx ∷ [] is accepted)
+    ∷ (withPID "PID||\\|A||B||2024" is accepted)
+    ∷ (withOBX "OBX|1||T^^^^^^\\||||||||F" is accepted)
+    ∷ (withOBX "OBX|1||T&\\||||||||F" is accepted)
+    -- a component that is added to a value of the greatest length
+    ∷ (withOBX "OBX|1||T|ABCDEFGHIJKLMNOPQRST^x|||||||F" is accepted)
+    -- out of place; an end that may not stand there
+    ∷ (msh ∷ obr ∷ obx ∷ [] is at "OBR" 1 0 0 0 0 1)
+    ∷ (msh ∷ pid ∷ [] is at "PID" 1 0 0 0 0 2)
+    -- too many repetitions are told before a missing field
+    ∷ (withPID "PID|||A||~~B||2024" is at "PID" 1 5 3 0 0 4)
+    -- OBX-2 is required where OBX-5 is filled, and only there
+    ∷ (withOBX "OBX|1||T||x||||||F" is at "OBX" 1 2 1 0 0 3)
+    -- a later repetition is judged, and the first broken one is told
+    ∷ (withPID "PID|||A~^^^x~^^^^y||B||2024" is at "PID" 1 3 2 1 1 3)
+    -- too long is told before a bad escape, and a bad escape before the type
+    ∷ (withOBX "OBX|1||T|ABCDEFGHIJKLMNOPQRST\\|||||||F" is at "OBX" 1 4 1 1 1 5)
+    ∷ (withOBX "OBX|1\\||T||||||||F" is at "OBX" 1 1 1 1 1 6)
+    -- an occurrence is counted among those of its name
+    ∷ (msh ∷ pid ∷ "ZZX" ∷ obr ∷ obx ∷ "OBX|x||T||||||||F" ∷ [] is at "OBX" 2 1 1 1 1 7)
+    -- a list with a reason of its own, and one without
+    ∷ ("MSH|^~\\&||L|||2024||ORM^R01|C|P|2.5.1" ∷ pid ∷ obr ∷ obx ∷ [] is at "MSH" 1 9 1 1 1 9)
+    ∷ (withOBX "OBX|1||T||||||||Q" is at "OBX" 1 11 1 1 1 8)
+    ∷ []
+
+-- THE DEFINITION SAYS SO of each
+abbrev pub CasesHold : Type 0
+CasesHold = map told cases ≡ map wanted cases
