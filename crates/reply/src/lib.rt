@@ -7,22 +7,19 @@ ghost use Rattle.text.specs.Answer.{given};
 ghost use Rattle.profile.specs.Profile.{profile01};
 ghost use Rattle.reader.specs.Fault;
 ghost use Rattle.reader.specs.Told.{verdictOf};
+ghost use Rattle.heading.specs.Inner.{IsHeader};
 ghost use Rattle.reply.specs.Reply.{noControl, replyText};
-ghost use Rattle.reply.specs.Inner.{IsHeader, Acknowledges};
+ghost use Rattle.reply.specs.Inner.{Acknowledges};
 ghost use Rattle.reply.specs.Promise.{Replies};
-
-mod error;
-mod header;
-
-use error::put_code;
-use error::put_error;
 use frame::Standing;
 use frame::occurrence;
-use header::is_unfit;
-use header::put_header;
+use heading::is_unfit;
+use heading::put_header;
 use reader::Verdict;
 use reader::judge;
 use reader::text_in;
+use report::put_code;
+use report::put_error;
 use text::Refusal;
 use text::Written;
 use text::is_reply_number;
