@@ -22,8 +22,9 @@ use Rattle.profile.specs.Table.{Table, Row, isListed}
 use Rattle.reader.specs.Place.{Place, place, isPlace, textAt, startAt}
 use Rattle.reader.specs.LookUp.{Empty, Text-from-to, found, tooFew, lookUpTests, lookUp}
 use Rattle.reader.specs.Fault.{checks, verdict, judge}
-use Rattle.reader.proofs.LookUp.{text-stands}
-use Rattle.reply.specs.Reply.{headerLeaf, copiedHD, replyText, reply}
+use Rattle.reader.proofs.Stands.{text-stands}
+use Rattle.reply.specs.Header.{headerLeaf, copiedHD}
+use Rattle.reply.specs.Reply.{replyText, reply}
 use Rattle.slip.specs.Slip.{observations, observationsFrom, observationsOf, slipText}
 use Rattle.slip.specs.Book.{file}
 use Rattle.demands.specs.Strike.{isListedPlace, strikeSegment, strike}

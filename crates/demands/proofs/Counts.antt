@@ -19,7 +19,7 @@ use Rattle.reader.specs.View.{segmentSeen, view}
 use Rattle.reader.specs.Fault.{Check, fieldChecks, count, walk, checks}
 use Rattle.reader.specs.declared.Verdict.the-variants.{Accepted}
 use Rattle.reader.specs.Promise.{Judges}
-use Rattle.reader.proofs.Members.{append-all, picked}
+use Rattle.parts.proofs.Members.{append-all, picked}
 use Rattle.reader.proofs.Accepted.{judged-accepted}
 use Rattle.slip.specs.Slip.{observations, observationsFrom}
 use Rattle.demands.specs.Idle.{observationsIn, groups, together}

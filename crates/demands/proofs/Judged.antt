@@ -24,9 +24,9 @@ use Rattle.reader.specs.Fault.{Check, leafChecks, repetitionChecks, fieldChecks
 use Rattle.reader.specs.Told.{placeOf, verdictOf}
 use Rattle.reader.specs.Promise.{Judges}
 use Rattle.reader.proofs.Accepted.{judged-fault}
-use Rattle.reader.proofs.Headed.{header-opens}
+use Rattle.frame.proofs.Header.{header-opens}
 use Rattle.reader.proofs.Patient.{header-listed}
-use Rattle.reader.proofs.Members.{append-all, all-of}
+use Rattle.parts.proofs.Members.{append-all, all-of}
 
 -- a segment has a name; a check is at a place that has one
 abbrev HasName : Text → Type 0

@@ -16,7 +16,7 @@ use Rattle.parts.specs.Descent.{cut}
 use Rattle.frame.specs.Segments.{name, field, unsplit}
 use Rattle.profile.specs.Table.{Table, Leaf, Listed, leaf, named-by, Usage, Row, Rule, rulesOf, leavesIn}
 use Rattle.profile.proofs.Gathered.{RowOk, RuleOk, gathered-all}
-use Rattle.reader.proofs.LeafByLeaf.{none-filled}
+use Rattle.reader.proofs.Filled.{none-filled}
 use Rattle.reader.specs.Place.{leafOf, repetitions}
 use Rattle.reader.specs.View.{Field, entriesOf, filledFrom, namedIn, fieldSeen, segmentSeen}
 use Rattle.demands.specs.Strike.{change, hasLeaf, rowsAt, hasField, leavesAt, strikeField, strikeSegment}

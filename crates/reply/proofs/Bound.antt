@@ -24,7 +24,9 @@ use Rattle.profile.specs.Fields.{controlLimit}
 use Rattle.profile.specs.Profile.{profile01}
 use Rattle.reader.specs.Place.{Place}
 use Rattle.reader.specs.Fault.{Verdict, accepted, fault, verdict, condition}
-use Rattle.reply.specs.Reply.{headerLeaf, trimmed, orEmpty, copiedHD, processing, control, noControl, code, orNone, placeText, conditionText, headerFields, replyHeader, replyMSA, replyERR, replyText}
+use Rattle.heading.specs.Header.{headerLeaf, trimmed, orEmpty, copiedHD, processing, headerFields, replyHeader}
+use Rattle.report.specs.Error.{code, orNone, placeText, conditionText, replyERR}
+use Rattle.reply.specs.Reply.{control, noControl, replyMSA, replyText}
 use Rattle.reply.proofs.Small.{Small, SmallVerdict, smallTable, profile-small, verdict-small}
 
 abbrev Within : ℕ → Text → Type 0

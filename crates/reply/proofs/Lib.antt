@@ -1,6 +1,5 @@
-pub mod Heading
+pub mod Control
 pub mod Small
 pub mod Bound
-pub mod ErrorLaws
 pub mod Whole
 pub mod Unique

@@ -11,7 +11,7 @@ use Rattle.text.specs.Bytes.{Text, pick, bytes, cr, within}
 use Rattle.types.specs.Types.{isStamp, isReplyNumber}
 use Rattle.text.specs.Answer.{Answer, refused, given, first, tell}
 use Rattle.text.specs.Puts.{Puts}
-use Rattle.text.specs.Marks.{usual, marksOf}
+use Rattle.text.specs.Marks.{usual}
 use Rattle.text.specs.declared.Written.{Written}
 use Rattle.text.specs.declared.Written.the-variants as written
 use Rattle.text.specs.declared.refusal.Refusal.{Refusal}
@@ -20,25 +20,21 @@ use Rattle.text.proofs.Answer.{first-passed, first-refused, first-given, given-
 use Rattle.text.proofs.Puts.{puts-length, puts-head, puts-both, puts-front-room, puts-front-ends, puts-front}
 use Rattle.parts.specs.Split.{led, join, closed}
 use Rattle.frame.specs.Frame.{frameTests, framed}
-use Rattle.frame.specs.declared.segment.Standing.{Standing}
 use Rattle.profile.specs.Profile.{profile01}
 use Rattle.reader.specs.declared.Verdict as code-verdict
 use Rattle.reader.specs.declared.Verdict.the-variants as code
-use Rattle.reader.specs.Place.{leafAt}
-use Rattle.reader.specs.Copied.{segmentText}
 use Rattle.reader.specs.Fault.{Verdict, accepted, fault, verdict, judge}
 use Rattle.reader.specs.Told.{placeOf, verdictOf}
+use Rattle.heading.specs.Header.{replyHeader}
+use Rattle.heading.specs.Inner.{ended}
+use Rattle.report.specs.Error as error
+use Rattle.report.specs.Error.{replyERR}
+use Rattle.report.specs.Inner.{codeOf, errorOf}
 use Rattle.reply.specs.Reply as spec
-use Rattle.reply.specs.Reply.{ownTests, control, noControl, replyHeader, replyMSA, replyERR, replyText}
-use Rattle.reply.specs.Inner.{IsHeader, ended, codeOf, errorOf, ownReply, Acknowledges}
+use Rattle.reply.specs.Reply.{control, noControl, replyMSA, replyText, ownTests}
+use Rattle.reply.specs.Inner.{ownReply, Acknowledges}
 use Rattle.reply.specs.Promise.{Replies}
-use Rattle.reply.proofs.Heading.{leaf-copied}
 use Rattle.reply.proofs.Bound.{reply-bound}
-
--- the control number is put as it is copied from the header
-pub control-put : (m : Text) (s : Standing) (t : Text) {before : Text} {at : ℕ} {after : Text} {r : ℕ} → IsHeader m s
-    → t ≡ leafAt (marksOf m) (segmentText m s) 10 1 1 1 → Puts before at t after r → Puts before at (control m) after r
-control-put m s t h e p = rw (leaf-copied m s h 10 1 t e) at p
 
 -- the header, MSA and what follows it
 msa-step : (h a k : Text) (es : List Text)
@@ -60,7 +56,7 @@ segments-written h m code.Accepted w e =
     rw (← n) (rw closed-none at (msa-step h (bytes "AA") (control m) []))
 segments-written h m (code.Fault f) w e =
     let n : fault (placeOf (f .place)) (f .reason) ≡ w = cc in
-    rw (← n) (msa-step h (spec.code (fault (placeOf (f .place)) (f .reason))) (control m) (replyERR (fault (placeOf (f .place)) (f .reason))))
+    rw (← n) (msa-step h (error.code (fault (placeOf (f .place)) (f .reason))) (control m) (replyERR (fault (placeOf (f .place)) (f .reason))))
 
 module _ (m stamp number : Text) (v : code-verdict.Verdict) (e : verdictOf v ≡ given (verdict profile01 m)) where
   reply-written : (replyHeader m stamp number ++ cr ∷ []) ++ (codeOf v ++ (control m ++ (cr ∷ errorOf v))) ≡ replyText profile01 m stamp number

@@ -18,7 +18,8 @@ use Rattle.reader.specs.View.{filledFrom, fieldSeen, segmentSeen, view}
 use Rattle.reader.specs.Fault.{walk, checks, firstBroken, verdict, judge}
 use Rattle.text.specs.Decimal.{digitsBefore}
 use Rattle.line.specs.Line.{faultLine, textLine}
-use Rattle.reply.specs.Reply.{trimmed, copiedHD, replyText, reply}
+use Rattle.reply.specs.Header.{trimmed, copiedHD}
+use Rattle.reply.specs.Reply.{replyText, reply}
 use Rattle.slip.specs.Slip.{observations, observationsFrom, slipOf, slipText}
 use Rattle.slip.specs.Book.{file}
 use Rattle.slip.specs.Read.{isSlipFrom, valueFrom, readSlip}

@@ -2,7 +2,7 @@
 use native.Mathlib.Omega.{arith}
 use Rattle.text.specs.Bytes.{bytes}
 use Rattle.reader.proofs.Copied.{standing-stood}
-use Rattle.reply.proofs.Heading.{control-copied}
+use Rattle.reply.proofs.Control.{control-tested}
 use borrow.Author.Needs.{needs}
 use Rattle.reply.proofs.has_no_control.Statement.{statement}
 use Rattle.reply.proofs.has_no_control.Tie as tie
@@ -14,7 +14,7 @@ returns : tie.Need-returns
 returns c =
     let t = c .before .before in
     let b = t .before .before in
-    control-copied (b .args .m .now) (b .args .header) (b .pre) _ (c .before .marks-of .ensures) _ _ (t .text-in .ensures) (c .is-unfit .ensures)
+    control-tested (b .args .m .now) (b .args .header) (b .pre) _ (t .text-in .ensures) _ (c .before .marks-of .ensures) _ (c .is-unfit .ensures)
 
 pub has-no-control-spec : {M : Type 1} → statement M
 has-no-control-spec =

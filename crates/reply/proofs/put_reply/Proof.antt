@@ -5,8 +5,8 @@ use Rattle.text.specs.Bytes.{bytes}
 use lib.ListN.{length}
 use Rattle.text.proofs.Puts.{puts-both, puts-length}
 use Rattle.reader.proofs.Copied.{standing-stood}
-use Rattle.reply.proofs.Heading.{leaf-copied}
-use Rattle.reply.proofs.Whole.{control-put, reply-length, reply-room, reply-put}
+use Rattle.reply.proofs.Control.{control-copied, control-put}
+use Rattle.reply.proofs.Whole.{reply-length, reply-room, reply-put}
 use borrow.Author.Needs.{needs}
 use Rattle.reply.proofs.put_reply.Statement.{statement}
 use Rattle.reply.proofs.put_reply.Tie as tie
@@ -39,7 +39,7 @@ put-requires c κs =
     omega (
       arith,
       reply-room (a .m .now) (a .stamp .now) (a .number .now) (a .v) (s .pre .1 .0) (h .put-header .ensures) (s .pre .1 .1),
-      ap length (leaf-copied (a .m .now) (a .header) (s .pre .0) 10 1 _ (c .text-in .ensures)),
+      ap length (control-copied (a .m .now) (a .header) (s .pre .0) _ (c .text-in .ensures)),
       puts-length (k .put-code .ensures),
     )
 
@@ -50,7 +50,7 @@ put-requires-2 c κs =
     let h = k .before .before .before .before in
     let s = h .before .before .before .before .before .before in
     let a = s .args in
-    let q = control-put (a .m .now) (a .header) (t .before .text-in .result .now) (s .pre .0) (t .before .text-in .ensures) (t .put .ensures) in
+    let q = control-put (a .m .now) (a .header) (s .pre .0) (t .before .text-in .result .now) (t .before .text-in .ensures) (t .put .ensures) in
     omega (
       arith,
       q .ends,
@@ -67,7 +67,7 @@ put-error-requires c κs =
     let h = k .before .before .before .before in
     let s = h .before .before .before .before .before .before in
     let a = s .args in
-    let q = control-put (a .m .now) (a .header) (t .before .text-in .result .now) (s .pre .0) (t .before .text-in .ensures) (t .put .ensures) in
+    let q = control-put (a .m .now) (a .header) (s .pre .0) (t .before .text-in .result .now) (t .before .text-in .ensures) (t .put .ensures) in
     omega (
       arith,
       q .ends,
@@ -86,7 +86,7 @@ returns c =
     let h = k .before .before .before .before in
     let s = h .before .before .before .before .before .before in
     let a = s .args in
-    let q = control-put (a .m .now) (a .header) (t .before .text-in .result .now) (s .pre .0) (t .before .text-in .ensures) (t .put .ensures) in
+    let q = control-put (a .m .now) (a .header) (s .pre .0) (t .before .text-in .result .now) (t .before .text-in .ensures) (t .put .ensures) in
     reply-put (a .m .now) (a .stamp .now) (a .number .now) (a .v) (s .pre .1 .0) (h .put-header .ensures)
     (puts-both (k .put-code .ensures) (puts-both q (puts-both (e .put2 .ensures) (r .put-error .ensures))))
 

@@ -1,0 +1,59 @@
+-- The reply's header: its exact bytes, of the message's own header, a stamp and a reply number.
+use Prim.Native.Nat.{ℕ}
+use mathlib.Core.Bool.{_&&_, _||_}
+use mathlib.Core.List.{List, [], _∷_, _++_}
+use Rattle.text.specs.Bytes.{Text, pick, bytes, empty, isOne}
+use Rattle.text.specs.declared.marks.Marks.{Marks}
+use Rattle.text.specs.Marks.{usual, marksOf}
+use Rattle.escape.specs.Escape.{badEscape}
+use Rattle.text.specs.Limits.{tooLong}
+use Rattle.parts.specs.Split.{join}
+use Rattle.frame.specs.Frame.{header}
+use Rattle.profile.specs.Table.{limitOf, IS, ST, ID}
+use Rattle.profile.specs.Lists.{processing-ids}
+use Rattle.reader.specs.Place.{place, textAt}
+
+-- component c of a header field: the written leaf of repetition 1
+abbrev pub headerLeaf : Text → ℕ → ℕ → Text
+headerLeaf m f c = textAt m (place (bytes "MSH") 1 f 1 c 1)
+
+-- empty texts at the end dropped
+unfoldable pub trimmed : List Text → List Text
+trimmed [] = []
+trimmed (p ∷ ps) = let r = trimmed ps in pick (empty p && empty r) [] (p ∷ r)
+
+-- an HD leaf too long or with a bad escape is left empty
+abbrev pub orEmpty : Marks → ℕ → Text → Text
+orEmpty q limit t = pick (tooLong limit t || badEscape q t) [] t
+
+-- an HD as it is copied: three components
+unfoldable pub copiedHD : Text → ℕ → Text
+copiedHD m f =
+    join (usual .component)
+    (trimmed
+    (orEmpty (marksOf m) (limitOf IS) (headerLeaf m f 1)
+    ∷ orEmpty (marksOf m) (limitOf ST) (headerLeaf m f 2)
+    ∷ orEmpty (marksOf m) (limitOf ID) (headerLeaf m f 3)
+    ∷ []))
+
+-- MSH-11.1 not in its list becomes P
+abbrev pub processing : Text → Text
+processing t = pick (isOne t processing-ids) t (bytes "P")
+
+-- the header's fields behind its ninth byte
+abbrev pub headerFields : Text → Text → Text → List Text
+headerFields m stamp number =
+    copiedHD m 5
+    ∷ copiedHD m 6
+    ∷ copiedHD m 3
+    ∷ copiedHD m 4
+    ∷ stamp
+    ∷ []
+    ∷ bytes "ACK^R01^ACK"
+    ∷ number
+    ∷ processing (headerLeaf m 11 1)
+    ∷ bytes "2.5.1"
+    ∷ []
+
+abbrev pub replyHeader : Text → Text → Text → Text
+replyHeader m stamp number = header usual ++ join (usual .field) (headerFields m stamp number)

@@ -1,0 +1,57 @@
+-- The reply's code for a verdict, and its ERR: the place and the condition of a fault.
+use Prim.Native.Nat.{ℕ}
+use mathlib.Core.List.{List, [], _∷_}
+use lib.Dec.{eqb, ltb}
+use Rattle.text.specs.Bytes.{Text, pick, bytes}
+use Rattle.text.specs.Decimal.{decimal}
+use Rattle.text.specs.Marks.{usual}
+use Rattle.parts.specs.Split.{join}
+use Rattle.reader.specs.Place.{Place}
+use Rattle.reader.specs.Fault.{Verdict, accepted, fault, condition}
+use Rattle.heading.specs.Header.{trimmed}
+
+-- AE below condition 200, AR from 200, else AA
+abbrev pub code : Verdict → Text
+code accepted = bytes "AA"
+code (fault p n) = pick (ltb (condition n) 200) (bytes "AE") (bytes "AR")
+
+-- a place with its trailing zeros left off
+abbrev pub orNone : ℕ → Text
+orNone n = pick (eqb n 0) [] (decimal n)
+
+abbrev pub placeText : Place → Text
+placeText p =
+    join (usual .component)
+    (trimmed
+    (p .name
+    ∷ orNone (p .occurrence)
+    ∷ orNone (p .field)
+    ∷ orNone (p .repetition)
+    ∷ orNone (p .component)
+    ∷ orNone (p .subcomponent)
+    ∷ []))
+
+-- table 0357
+abbrev pub conditionText : ℕ → Text
+conditionText k =
+    pick (eqb k 100) (bytes "Segment sequence error")
+    (pick (eqb k 101) (bytes "Required field missing")
+    (pick (eqb k 102) (bytes "Data type error")
+    (pick (eqb k 103) (bytes "Table value not found")
+    (pick (eqb k 200) (bytes "Unsupported message type")
+    (pick (eqb k 201) (bytes "Unsupported event code")
+    (pick (eqb k 202) (bytes "Unsupported processing id") (bytes "Unsupported version id")))))))
+
+-- an ERR for a fault
+abbrev pub replyERR : Verdict → List Text
+replyERR accepted = []
+replyERR (fault p n) =
+    join (usual .field)
+    (bytes "ERR"
+    ∷ []
+    ∷ placeText p
+    ∷ join (usual .component)
+    (decimal (condition n) ∷ conditionText (condition n) ∷ bytes "HL70357" ∷ [])
+    ∷ bytes "E"
+    ∷ [])
+    ∷ []

@@ -1,0 +1,2 @@
+pub mod Error
+pub mod Inner
