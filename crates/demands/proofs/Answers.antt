@@ -24,7 +24,8 @@ use Rattle.reader.specs.LookUp.{Empty, Text-from-to, found, tooFew, lookUpTests
 use Rattle.reader.specs.Fault.{checks, verdict, judge}
 use Rattle.reader.proofs.LookUp.{text-stands}
 use Rattle.reply.specs.Reply.{headerLeaf, copiedHD, replyText, reply}
-use Rattle.slip.specs.Slip.{observations, observationsFrom, observationsOf, slipText}
+use Rattle.slip.specs.Observations.{observations, observationsFrom, observationsOf}
+use Rattle.slip.specs.Slip.{slipText}
 use Rattle.slip.specs.Book.{file}
 use Rattle.demands.specs.Strike.{isListedPlace, strikeSegment, strike}
 use Rattle.demands.specs.Fit.{listsComponent, hasRow, fit, Copied, copied, copies, hasCopies}
