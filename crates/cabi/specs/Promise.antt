@@ -12,7 +12,7 @@ use Rattle.reader.specs.LookUp.{lookUp}
 use Rattle.reader.specs.Fault.{judge}
 use Rattle.reply.specs.Reply.{reply}
 use Rattle.slip.specs.Book.{file, bookAfter}
-use Rattle.slip.specs.Read.{readSlip}
+use Rattle.book.specs.Read.{readSlip}
 use Rattle.cabi.specs.Told.{status, Tells, verdictNumbers, foundNumbers, asked, sizeNumbers, partNumbers}
 
 -- JUDGING m by a table: ten numbers

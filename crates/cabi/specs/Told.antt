@@ -8,7 +8,7 @@ use Rattle.text.specs.Answer.{Answer, refused, given, numberOf}
 use Rattle.reader.specs.Place.{Place, place}
 use Rattle.reader.specs.LookUp.{Found, Empty, Text-from-to}
 use Rattle.reader.specs.Fault.{Verdict, accepted, fault, condition}
-use Rattle.slip.specs.Read.{Part}
+use Rattle.book.specs.Read.{Part}
 
 -- 0 where the call is answered, else the refusal's number
 abbrev pub status : {A : Type 0} → Answer A → ℕ

@@ -5,12 +5,12 @@ ghost use Rattle.cabi.specs.Promise.{JudgeTells, LookUpTells, ResolveTel
 mod place;
 mod tell;
 
+use book::find_value;
 use escape::resolve;
 use place::place_asked;
 use reader::find;
 use reader::judge;
 use slip::file;
-use slip::find_value;
 use tell::tell_filed;
 use tell::tell_found;
 use tell::tell_value;

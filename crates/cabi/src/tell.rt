@@ -3,14 +3,15 @@ ghost use mathlib.Core.Path.{_≡_};
 ghost use Rattle.text.specs.Answer.{writtenOf};
 ghost use Rattle.reader.specs.Fault.{fault};
 ghost use Rattle.reader.specs.Told.{placeOf, verdictOf, foundOf};
-ghost use Rattle.slip.specs.Told.{filedOf, valueOf};
+ghost use Rattle.slip.specs.Told.{filedOf};
+ghost use Rattle.book.specs.Told.{valueOf};
 ghost use Rattle.cabi.specs.Told.{status, Tells, verdictNumbers, foundNumbers, sizeNumbers, partNumbers};
+use book::Value;
 use reader::Fault;
 use reader::Found;
 use reader::Verdict;
 use reader::condition;
 use slip::Filed;
-use slip::Value;
 use text::Written;
 use text::number;
 

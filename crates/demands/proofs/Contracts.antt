@@ -14,8 +14,8 @@ use denote.Triple.Entry.{Args, Res}
 use denote.Triple.Clauses.{AtExit}
 use Rattle.reader.specs.Promise.{LooksUp}
 use Rattle.reader.proofs.look_up as look-up
-use Rattle.slip.specs.Promise.{ReadsSlip}
-use Rattle.slip.proofs.read_slip as read-slip
+use Rattle.book.specs.Promise.{ReadsSlip}
+use Rattle.book.proofs.read_slip as read-slip
 
 module _ {M : Type 1} (𝓤 : URA M) (H : Heap 𝓤) (A : Atoms 𝓤) (mem : Memory → SProp 𝓤) (run : Routine → Fun 𝓤) (κs : Lfts 1) where
   open Connectives (connectives 𝓤) using (⌜_⌝, ⊤ₛ)

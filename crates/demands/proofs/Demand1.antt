@@ -31,15 +31,19 @@ use Rattle.reply.specs.Promise.{Replies}
 use Rattle.reply.proofs.Unique.{reply-unique}
 use Rattle.slip.specs.declared.Filed.{Filed}
 use Rattle.slip.specs.declared.Filed.the-variants as filed
-use Rattle.slip.specs.declared.Value.{Value}
-use Rattle.slip.specs.declared.Value.the-variants as value
-use Rattle.slip.specs.Slip.{slotSize, slipText}
+use Rattle.slip.specs.Slot.{slotSize}
+use Rattle.slip.specs.Slip.{slipText}
 use Rattle.slip.specs.Book.{fileTests, file, bookAfter}
-use Rattle.slip.specs.Read.{Part, slot, expected, valueFrom, orNothing, readTests, readSlip}
-use Rattle.slip.specs.Told.{filedOf, valueOf, startOf, endOf}
-use Rattle.slip.specs.Promise.{Files, ReadsSlip}
-use Rattle.slip.proofs.Unique.{file-unique, read-slip-unique}
-use Rattle.slip.proofs.ReadBack.{filed-untouched, filed-size}
+use Rattle.slip.specs.Told.{filedOf}
+use Rattle.slip.specs.Promise.{Files}
+use Rattle.slip.proofs.Unique.{file-unique}
+use Rattle.book.specs.declared.Value.{Value}
+use Rattle.book.specs.declared.Value.the-variants as value
+use Rattle.book.specs.Read.{Part, slot, expected, valueFrom, orNothing, readTests, readSlip}
+use Rattle.book.specs.Told.{valueOf, startOf, endOf}
+use Rattle.book.specs.Promise.{ReadsSlip}
+use Rattle.book.proofs.Unique.{read-slip-unique}
+use Rattle.book.proofs.ReadBack.{filed-untouched, filed-size}
 use Rattle.demands.specs.Demand1.{numbers, InOrder, Answers, Writes, sameLookUp, sameValue, frameNumbers, Demand1}
 use Rattle.demands.proofs.Judged.{judged}
 

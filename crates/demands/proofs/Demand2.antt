@@ -39,14 +39,14 @@ use Rattle.reader.proofs.Unique.{verdict-same}
 use Rattle.reply.specs.Reply.{noControl, replyText, replyTests, reply}
 use Rattle.reply.specs.Promise.{Replies}
 use Rattle.reply.proofs.Bound.{reply-bound}
-use Rattle.slip.specs.declared.Value as code-value
-use Rattle.slip.specs.declared.reading.SlipValue.{SlipValue}
-use Rattle.slip.specs.Slip.{slotSize}
+use Rattle.slip.specs.Slot.{slotSize}
 use Rattle.slip.specs.Book.{noSlot}
-use Rattle.slip.specs.Read.{Part, expected, isSlip, valueFrom, isNone, orNothing, slot, readTests, readSlip}
-use Rattle.slip.specs.Told.{valueOf}
-use Rattle.slip.specs.Promise.{ReadsSlip}
-use Rattle.slip.proofs.ReadBack.{filed-there, filed-read, filed-others}
+use Rattle.book.specs.declared.Value as code-value
+use Rattle.book.specs.declared.reading.SlipValue.{SlipValue}
+use Rattle.book.specs.Read.{Part, expected, isSlip, valueFrom, isNone, orNothing, slot, readTests, readSlip}
+use Rattle.book.specs.Told.{valueOf}
+use Rattle.book.specs.Promise.{ReadsSlip}
+use Rattle.book.proofs.ReadBack.{filed-there, filed-read, filed-others}
 use Rattle.demands.specs.Demand2.{Wrote, Stands, Holds, Demand2}
 use Rattle.demands.proofs.Idle.{shut-out}
 

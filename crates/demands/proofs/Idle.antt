@@ -14,17 +14,21 @@ use Rattle.reader.specs.Told.{verdictOf}
 use Rattle.reader.proofs.Unique.{verdict-same}
 use Rattle.slip.specs.declared.Filed.{Filed}
 use Rattle.slip.specs.declared.Filed.the-variants.{Slip}
-use Rattle.slip.specs.declared.reading.SlipValue.{SlipValue}
-use Rattle.slip.specs.Slip.{twoBytes, resolvedAt, observationsOf, slipText, slipValues}
+use Rattle.slip.specs.Slot.{twoBytes}
+use Rattle.slip.specs.Observations.{observationsOf}
+use Rattle.slip.specs.Slip.{resolvedAt, slipText, slipValues}
 use Rattle.slip.specs.Book.{noGroup, noSlot, bookAfter}
-use Rattle.slip.specs.Read.{slot}
-use Rattle.slip.specs.RoundTrip.{valueOfTag, handedBack}
 use Rattle.slip.specs.Inner.{ownFiling, FilesOwn}
-use Rattle.slip.specs.Promise.{Files, ReadsSlip}
+use Rattle.slip.specs.Promise.{Files}
 use Rattle.slip.proofs.Answers.{files-own}
-use Rattle.slip.proofs.RoundTrip.{filed-fitting, round-trip, filler-back}
-use Rattle.slip.proofs.ReadBack.{slip-given, filed-there, filed-read}
+use Rattle.slip.proofs.Passed.{filed-fitting}
 use Rattle.slip.proofs.Unique.{file-unique}
+use Rattle.book.specs.declared.reading.SlipValue.{SlipValue}
+use Rattle.book.specs.Read.{slot}
+use Rattle.book.specs.RoundTrip.{valueOfTag, handedBack}
+use Rattle.book.specs.Promise.{ReadsSlip}
+use Rattle.book.proofs.RoundTrip.{round-trip, filler-back}
+use Rattle.book.proofs.ReadBack.{slip-given, filed-there, filed-read}
 use Rattle.worked.specs.Messages.{twoOrders}
 use Rattle.worked.specs.Worked.{P1, P2, P3}
 use Rattle.worked.proofs.Computing.{computing}

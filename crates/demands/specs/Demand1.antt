@@ -30,12 +30,14 @@ use Rattle.reader.specs.Promise.{LooksUp, Judges}
 use Rattle.reply.specs.Reply.{replyTests}
 use Rattle.reply.specs.Promise.{Replies}
 use Rattle.slip.specs.declared.Filed.the-variants.{Slip}
-use Rattle.slip.specs.declared.reading.SlipValue.{SlipValue}
-use Rattle.slip.specs.Slip.{slotSize}
+use Rattle.slip.specs.Slot.{slotSize}
 use Rattle.slip.specs.Book.{fileTests}
-use Rattle.slip.specs.Read.{readTests}
-use Rattle.slip.specs.Told.{filedOf, valueOf}
-use Rattle.slip.specs.Promise.{Files, ReadsSlip}
+use Rattle.slip.specs.Told.{filedOf}
+use Rattle.slip.specs.Promise.{Files}
+use Rattle.book.specs.declared.reading.SlipValue.{SlipValue}
+use Rattle.book.specs.Read.{readTests}
+use Rattle.book.specs.Told.{valueOf}
+use Rattle.book.specs.Promise.{ReadsSlip}
 
 -- the numbers of refusals, in the order in which they are tested
 abbrev pub numbers : List Test → List ℕ

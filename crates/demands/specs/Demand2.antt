@@ -32,13 +32,15 @@ use Rattle.reader.specs.Promise.{LooksUp, Judges}
 use Rattle.reply.specs.Reply.{replyText}
 use Rattle.reply.specs.Promise.{Replies}
 use Rattle.slip.specs.declared.Filed.the-variants.{Slip}
-use Rattle.slip.specs.declared.Value.the-variants as value
-use Rattle.slip.specs.declared.reading.SlipValue.{SlipValue}
-use Rattle.slip.specs.Slip.{slipValues, slotSize, slipText}
-use Rattle.slip.specs.Read.{expected, isSlip, valueFrom, slot}
-use Rattle.slip.specs.Told.{valueOf}
-use Rattle.slip.specs.RoundTrip.{valueOfTag, handedBack}
-use Rattle.slip.specs.Promise.{Files, ReadsSlip}
+use Rattle.slip.specs.Slot.{slotSize}
+use Rattle.slip.specs.Slip.{slipValues, slipText}
+use Rattle.slip.specs.Promise.{Files}
+use Rattle.book.specs.declared.Value.the-variants as value
+use Rattle.book.specs.declared.reading.SlipValue.{SlipValue}
+use Rattle.book.specs.Read.{expected, isSlip, valueFrom, slot}
+use Rattle.book.specs.Told.{valueOf}
+use Rattle.book.specs.RoundTrip.{valueOfTag, handedBack}
+use Rattle.book.specs.Promise.{ReadsSlip}
 use Rattle.demands.specs.Idle.{ShutOut}
 
 -- n BYTES WRITTEN into a buffer, which has room for them: they are t, and the rest stays

@@ -14,12 +14,15 @@ use Rattle.reader.specs.declared.Verdict.the-variants.{Accepted}
 use Rattle.reader.specs.Promise.{Judges}
 use Rattle.slip.specs.declared.Filed.{Filed}
 use Rattle.slip.specs.declared.Filed.the-variants.{Slip}
-use Rattle.slip.specs.declared.reading.SlipValue.{SlipValue}
-use Rattle.slip.specs.Slip.{twoBytes, resolvedAt, observationsOf}
+use Rattle.slip.specs.Slot.{twoBytes}
+use Rattle.slip.specs.Observations.{observationsOf}
+use Rattle.slip.specs.Slip.{resolvedAt}
 use Rattle.slip.specs.Book.{noSlot}
-use Rattle.slip.specs.Read.{slot}
-use Rattle.slip.specs.RoundTrip.{handedBack}
-use Rattle.slip.specs.Promise.{Files, ReadsSlip}
+use Rattle.slip.specs.Promise.{Files}
+use Rattle.book.specs.declared.reading.SlipValue.{SlipValue}
+use Rattle.book.specs.Read.{slot}
+use Rattle.book.specs.RoundTrip.{handedBack}
+use Rattle.book.specs.Promise.{ReadsSlip}
 use Rattle.worked.specs.Messages.{twoOrders}
 use Rattle.worked.specs.Worked.{P1, P2, P3}
 

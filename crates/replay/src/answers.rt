@@ -1,9 +1,9 @@
 // The lines that tell what an entry answered. What has no room is left out: the program lends room for every answer.
 use crate::spelling::put_string;
+use book::Value;
 use reader::Found;
 use reader::Verdict;
 use slip::Filed;
-use slip::Value;
 use text::Refusal;
 use text::Written;
 use text::number;

@@ -38,6 +38,6 @@ pub fn ask_file(m: &[u8], group: u64, slot: usize, book: &mut [u8], out: &mut [u
 }
 
 pub fn ask_read(book: &[u8], slot: usize, tag: u64, out: &mut [u8]) -> usize {
-    let v = slip::find_value(book, slot, tag);
+    let v = book::find_value(book, slot, tag);
     tell_value(out, v, book)
 }

@@ -1,12 +1,12 @@
 -- The answers of filing: the first refusal that applies, or the slip in its slot.
 use mathlib.Core.Path.{_≡_, refl, sym, ap, _∙_}
-use Prim.Native.Nat.{ℕ, _*_, _/_, _≤_, _<_}
+use Prim.Native.Nat.{ℕ, _+_, _*_, _/_, _≤_}
 use native.Mathlib.Omega.{arith}
 use mathlib.Core.Bool.{true, false, not}
 use mathlib.Core.List.{List, _∷_}
 use lib.ListN.{length}
 use lib.Dec.{eqb, ltb}
-use borrow.Author.Tests.{le-leb, lt-leb, eq-eqb, ne-eqb}
+use borrow.Author.Tests.{leb-false, eq-eqb, ne-eqb}
 use Rattle.text.specs.Bytes.{Text, bytes}
 use Rattle.text.specs.Answer.{Answer, refused, given, Test, test, first, tell}
 use Rattle.text.specs.Puts.{Puts}
@@ -14,20 +14,21 @@ use Rattle.text.specs.declared.refusal.Refusal.{Refusal}
 use Rattle.text.specs.declared.refusal.Refusal.the-variants.{NotAccepted, NoGroup, NoSlot}
 use Rattle.text.proofs.Lists.{or-right}
 use Rattle.text.proofs.Answer.{first-refused, first-passed, first-asked, given-passes, tell-first}
-use Rattle.frame.specs.declared.segment.Standing.the-variants.{Missing}
+use Rattle.reader.specs.declared.standing.Standing.the-variants.{Missing}
 use Rattle.frame.specs.Frame.{frameTests, framed}
 use Rattle.frame.specs.Segments.{segments, ofName}
-use Rattle.frame.specs.Told.{standing}
-use Rattle.frame.proofs.Seek.{standing-missing, standing-enough}
+use Rattle.reader.specs.Copied.{standing}
+use Rattle.reader.proofs.Seek.{standing-missing, standing-enough}
 use Rattle.profile.specs.Profile.{profile01}
 use Rattle.reader.specs.declared.Fault as code-fault
 use Rattle.reader.specs.declared.Verdict as code-verdict
 use Rattle.reader.specs.Fault.{Verdict, verdict, accepted, fault, judge}
 use Rattle.reader.specs.Told.{placeOf, verdictOf}
+use Rattle.slot.specs.Slot.{slotSize}
 use Rattle.slip.specs.declared.Filed.{Filed}
 use Rattle.slip.specs.declared.Filed.the-variants.{Refused, Slip}
-use Rattle.slip.specs.Slip.{slotSize, slipText}
-use Rattle.slip.specs.Book.{ownTests, isAccepted, noGroup, file, bookAfter}
+use Rattle.slip.specs.Slip.{slipText}
+use Rattle.slip.specs.Book.{ownTests, isAccepted, noGroup, noSlot, file, bookAfter}
 use Rattle.slip.specs.Told.{done, filedOf}
 use Rattle.slip.specs.Inner.{IsOrder, ownFiling, FilesOwn}
 use Rattle.slip.specs.Promise.{Files}
@@ -45,6 +46,10 @@ module _ (m : Text) (g : ℕ) where
 
   group-there : (a e : ℕ) → IsOrder m g a e → noGroup m g ≡ false
   group-there a e o = rw (ne-eqb g 0 (λ z. omega (arith, o .0)), standing-enough m (bytes "OBR") g a e (o .1))
+
+-- a slot of the book lies within it
+pub slot-room : (book : Text) (k : ℕ) → noSlot book k ≡ false → 1024 * k + 1024 ≤ length book
+slot-room book k e = omega (arith, leb-false (length book / 1024) k e)
 
 -- filing a group of an accepted message
 module _ (m : Text) (g k : ℕ) (before : Text) where
@@ -64,17 +69,16 @@ module _ (m : Text) (g k : ℕ) (before : Text) where
   own-missing e = own-group (group-missing m g e)
 
   module _ (a e : ℕ) (o : IsOrder m g a e) where
-    pub own-slot : length before / 1024 ≤ k → FilesOwn m g k before (Refused NoSlot) before
+    pub own-slot : noSlot before k ≡ true → FilesOwn m g k before (Refused NoSlot) before
     unfolding first
-    own-slot l =
-        own (Refused NoSlot) before (refused NoSlot) (rw (group-there m g a e o, le-leb (length before / 1024) k l)) refl refl
+    own-slot n = own (Refused NoSlot) before (refused NoSlot) (rw (group-there m g a e o, n)) refl refl
 
-    pub own-slip : k < length before / 1024 → (slip after : Text) (r : ℕ) → length slip ≡ 1024 → slip ≡ slipText m g
+    pub own-slip : noSlot before k ≡ false → (slip after : Text) (r : ℕ) → length slip ≡ 1024 → slip ≡ slipText m g
         → Puts before (k * 1024) slip after r → FilesOwn m g k before Slip after
     unfolding first
-    own-slip l slip after r n s p =
+    own-slip there slip after r n s p =
         let z : k * 1024 ≡ slotSize * k = omega arith in
-        own Slip after (given (slipText m g)) (rw (group-there m g a e o, lt-leb (length before / 1024) k l)) refl
+        own Slip after (given (slipText m g)) (rw (group-there m g a e o, there)) refl
         (p .holds ∙ rw (n, z, s))
 
 -- what judging answered decides

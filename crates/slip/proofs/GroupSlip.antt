@@ -7,19 +7,22 @@ use lib.ListN.{drop}
 use Rattle.text.specs.Bytes.{Text, bytes}
 use Rattle.text.specs.Marks.{marksOf}
 use Rattle.text.specs.declared.marks.Marks.{Marks}
-use Rattle.frame.specs.declared.segment.Standing.{Standing}
-use Rattle.frame.specs.declared.segment.Standing.the-variants.{Segment}
+use Rattle.reader.specs.declared.standing.Standing.{Standing}
+use Rattle.reader.specs.declared.standing.Standing.the-variants.{Segment}
 use Rattle.frame.specs.Frame.{framed}
 use Rattle.frame.specs.Segments.{segments}
-use Rattle.frame.specs.Told.{standing}
-use Rattle.frame.proofs.Seek.{standing-enough}
+use Rattle.reader.specs.Copied.{standing}
+use Rattle.reader.proofs.Seek.{standing-enough}
 use Rattle.profile.specs.Profile.{profile01}
 use Rattle.reader.specs.Copied.{segmentText}
 use Rattle.reader.specs.Fault.{verdict, accepted}
 use Rattle.reader.specs.Place.{place, leafAt, textAt}
 use Rattle.reader.proofs.Copied.{copied-text}
-use Rattle.slip.specs.Slip.{observations, observationsOf, slipOf, slipText}
-use Rattle.slip.specs.Inner.{Fits, valuesOf, IsOrder}
+use Rattle.slot.specs.Slot.{slipOf}
+use Rattle.slot.specs.Inner.{Fits, valuesOf}
+use Rattle.slip.specs.Observations.{observations, observationsOf}
+use Rattle.slip.specs.Slip.{slipText}
+use Rattle.slip.specs.Inner.{IsOrder}
 use Rattle.slip.proofs.Fitting.{Taken}
 use Rattle.slip.proofs.Accepted.{accepted-fitting}
 use Rattle.slip.proofs.Groups.{group-count}
@@ -72,7 +75,7 @@ module _ {m : Text} {a e : ℕ} {header patient : Standing} {q : Marks} {control
       → slip ≡ slipOf (valuesOf q control identity placer filler service n) → slip ≡ slipText m g
   unfolding slipText
   group-slip n slip k s =
-      let c : n ≡ observationsOf m g = k ∙ group-count m g a e o .1 in
+      let c : n ≡ observationsOf m g = k ∙ group-count m g a e (o .0) (o .1) .1 in
       s
       ∙ rw (
         r .marks,

@@ -14,11 +14,12 @@ use Rattle.parts.specs.Split.{before, reach, ended}
 use Rattle.parts.proofs.Split.{before-first}
 use Rattle.parts.proofs.Reach.{ended-next, ended-last, before-next, ended-on, ended-end}
 use Rattle.parts.proofs.Descent.{within-length}
+use Rattle.reader.specs.declared.standing.Standing.the-variants.{Segment}
 use Rattle.frame.specs.Segments.{segments, named, ofName, ahead}
+use Rattle.reader.specs.Copied.{standing}
 use Rattle.frame.proofs.Segments.{ahead-named}
-use Rattle.frame.proofs.Seek.{standing-enough, standing-start, standing-inside, standing-text}
-use Rattle.slip.specs.Slip.{observations, observationsFrom, observationsOf}
-use Rattle.slip.specs.Inner.{IsOrder}
+use Rattle.reader.proofs.Seek.{standing-enough, standing-start, standing-inside, standing-text}
+use Rattle.slip.specs.Observations.{observations, observationsFrom, observationsOf}
 
 -- so many are counted when the walk stands at a segment's start
 pub record Counting (m : Text) (from count start end : ℕ) : Type 0 where
@@ -108,17 +109,18 @@ ahead-inside n [] i h = absurd (omega arith)
 ahead-inside n (s ∷ ss) i h = inside-step n s ss (named n s) refl (ahead-inside n ss) i h
 
 -- THE COUNT of the group whose OBR stands there, told from behind that OBR's CR
-pub group-count : (m : Text) (g a e : ℕ) → IsOrder m g a e → (e < length m) × (observations (segments (drop (e + 1) m)) ≡ observationsOf m g)
-group-count m zero a e o = absurd (omega (arith, o .0))
-group-count m (suc i) a e o =
+pub group-count : (m : Text) (g a e : ℕ) → 1 ≤ g → Segment a e ≡ standing m (bytes "OBR") g
+    → (e < length m) × (observations (segments (drop (e + 1) m)) ≡ observationsOf m g)
+group-count m zero a e l o = absurd (omega arith)
+group-count m (suc i) a e _ o =
     let n = bytes "OBR" in
     let ss = segments m in
     let k = ahead n ss i in
-    let few = ltb-false (length (ofName n ss)) (suc i) (standing-enough m n (suc i) a e (o .1)) in
-    let w = standing-inside m n (suc i) a e (o .1) in
+    let few = ltb-false (length (ofName n ss)) (suc i) (standing-enough m n (suc i) a e o) in
+    let w = standing-inside m n (suc i) a e o in
     let z = within-length m a e (w .0) (w .1) in
-    let t = ap length (standing-text m n (suc i) a e (o .1)) in
+    let t = ap length (standing-text m n (suc i) a e o) in
     let l : e ≡ before cr m k + length (getD ss k []) =
-    omega (arith, standing-start m n (suc i) a e (o .1), ap length (ahead-named n ss i)) in
+    omega (arith, standing-start m n (suc i) a e o, ap length (ahead-named n ss i)) in
     let b = pieces-behind cr k m e (ahead-inside n ss i (omega arith)) l in
     (b .0, rw (add-one e, b .1) (sym (group-from ss i)))

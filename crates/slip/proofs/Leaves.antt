@@ -13,7 +13,7 @@ use Rattle.profile.specs.Rows.{rows}
 use Rattle.profile.specs.Profile.{profile01}
 use Rattle.reader.specs.Place.{place, textAt}
 use Rattle.reader.specs.Fault.{verdict, accepted}
-use Rattle.reader.proofs.Headed.{header-there}
+use Rattle.frame.proofs.Header.{header-there}
 use Rattle.reader.proofs.AcceptedRows.{accepted-fits, accepted-starred, accepted-only}
 
 abbrev Fits : Text → ℕ → Text → Type 0

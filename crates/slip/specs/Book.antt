@@ -11,7 +11,8 @@ use Rattle.frame.specs.Segments.{segments, ofName}
 use Rattle.frame.specs.Frame.{frameTests}
 use Rattle.profile.specs.Table.{Table}
 use Rattle.reader.specs.Fault.{Verdict, accepted, fault, verdict}
-use Rattle.slip.specs.Slip.{slotSize, slipText}
+use Rattle.slot.specs.Slot.{slotSize}
+use Rattle.slip.specs.Slip.{slipText}
 
 abbrev pub isAccepted : Verdict → Bool
 isAccepted accepted = true

@@ -1,7 +1,7 @@
+pub use Rattle.slot.specs.Slot
+pub mod Observations
 pub mod Slip
 pub mod Book
-pub mod Read
 pub mod Told
 pub mod Promise
-pub mod RoundTrip
 pub mod Inner

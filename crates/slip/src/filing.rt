@@ -1,56 +1,34 @@
 // Filing the slip of a group.
 ghost use mathlib.Core.Path.{_≡_};
 ghost use mathlib.Core.Bool.{true};
-ghost use Prim.Native.Nat.{ℕ, _≤_};
-ghost use lib.ListN.{length, drop, replicate};
+ghost use Prim.Native.Nat.{ℕ};
+ghost use lib.ListN.{replicate};
 ghost use Rattle.frame.specs.Frame.{framed};
-ghost use Rattle.frame.specs.Segments.{segments};
 ghost use Rattle.profile.specs.Profile.{profile01};
 ghost use Rattle.reader.specs.Fault.{verdict, accepted};
-ghost use Rattle.slip.specs.Slip;
+ghost use Rattle.slot.specs.Slot.{slotSize};
+ghost use Rattle.slip.specs.Slip.{slipText};
+ghost use Rattle.slip.specs.Book.{noSlot};
 ghost use Rattle.slip.specs.Inner.{IsOrder, FilesOwn};
 ghost use Rattle.slip.specs.Promise.{Files};
 use crate::Filed;
-use crate::filling::fill;
-use frame::Standing;
-use frame::has_name;
-use frame::occurrence;
-use parts::far_end;
+use crate::counting::observations;
+use reader::Standing;
+use reader::occurrence;
 use reader::Verdict;
 use reader::judge;
 use reader::text_in;
+use slot::fill;
 use text::Refusal;
 use text::marks_of;
 use text::put;
-
-// How many OBX stand from there on, up to the next OBR.
-fn observations(m: &[u8], from: usize) -> u64
-    requires { ⌜ from ≤ length (now m) ⌝ }
-    ensures { λ r. ⌜ r ≡ Slip.observations (segments (drop from (now (m .entry)))) ⌝ }
-{
-    let mut count = 0;
-    let mut start = from;
-    let mut end = far_end(m, from, b'\r');
-    while end < m.len() {
-        let s = &m[start..end];
-        if has_name(s, b'O', b'B', b'R') {
-            return count;
-        }
-        if has_name(s, b'O', b'B', b'X') {
-            count += 1;
-        }
-        start = end + 1;
-        end = far_end(m, start, b'\r');
-    }
-    count
-}
 
 // Fills a slot of zeros with the slip of the group whose OBR stands there.
 fn fill_group(m: &[u8], start: usize, end: usize, slip: &mut [u8])
     requires { ⌜ (framed (now m) ≡ true) × (verdict profile01 (now m) ≡ accepted) ⌝ }
     requires { ⌜ ((g : ℕ) × IsOrder (now m) g start end) ⌝ }
-    requires { ⌜ now slip ≡ replicate Slip.slotSize 0 ⌝ }
-    ensures { λ _. ⌜ ((g : ℕ) → IsOrder (now (m .entry)) g start end → now (slip .exit) ≡ Slip.slipText (now (m .entry)) g) ⌝ }
+    requires { ⌜ now slip ≡ replicate slotSize 0 ⌝ }
+    ensures { λ _. ⌜ ((g : ℕ) → IsOrder (now (m .entry)) g start end → now (slip .exit) ≡ slipText (now (m .entry)) g) ⌝ }
 {
     let header = occurrence(m, b'M', b'S', b'H', 1);
     let patient = occurrence(m, b'P', b'I', b'D', 1);
@@ -67,6 +45,13 @@ fn fill_group(m: &[u8], start: usize, end: usize, slip: &mut [u8])
     );
 }
 
+// NO SLOT: the book's length is divided. A slot is multiplied only once it has passed this test, since a large one would wrap.
+pub fn no_slot(book: &[u8], slot: usize) -> bool
+    ensures { λ r. ⌜ r ≡ noSlot (now (book .entry)) slot ⌝ }
+{
+    book.len() / 1024 <= slot
+}
+
 // Files a group of an accepted message. The slip is written aside and stands whole before a byte of the book is written.
 fn file_accepted(m: &[u8], group: u64, slot: usize, book: &mut [u8]) -> Filed
     requires { ⌜ (framed (now m) ≡ true) × (verdict profile01 (now m) ≡ accepted) ⌝ }
@@ -78,7 +63,7 @@ fn file_accepted(m: &[u8], group: u64, slot: usize, book: &mut [u8]) -> Filed
     match occurrence(m, b'O', b'B', b'R', group) {
         Standing::Missing => Filed::Refused(Refusal::NoGroup),
         Standing::Segment { start, end } => {
-            if book.len() / 1024 <= slot {
+            if no_slot(book, slot) {
                 return Filed::Refused(Refusal::NoSlot);
             }
             let mut slip = [0u8; 1024];

@@ -1,22 +1,13 @@
-// The slip book: filing a group's slip, and reading a slip's values.
+// The slip of a group, and filing it in the slip book.
+mod counting;
 mod filing;
-mod filling;
-mod reading;
 
 pub use filing::file;
-pub use reading::SlipValue;
-pub use reading::find_value;
-pub use reading::read_slip;
+pub use filing::no_slot;
 use text::Refusal;
 
 // A slip filed, or why not.
 pub enum Filed {
     Refused(Refusal),
     Slip,
-}
-
-// The value of a tag: the book's bytes from start up to end.
-pub enum Value {
-    Refused(Refusal),
-    Part { start: usize, end: usize },
 }

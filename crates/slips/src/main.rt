@@ -3,7 +3,7 @@ ghost use Prim.Native.Nat.{_≤_};
 ghost use lib.ListN.{length, replicate};
 ghost use Rattle.text.specs.Puts.{Puts};
 ghost use Rattle.profile.specs.Profile.{profile01};
-ghost use Rattle.slip.specs.Slip.{slotSize};
+ghost use Rattle.slip.specs.Slot.{slotSize};
 ghost use Rattle.slip.specs.Book.{file};
 ghost use Rattle.line.specs.Hex.{slipLines};
 use libc::STDIN_FILENO;

@@ -20,9 +20,11 @@ use Rattle.text.specs.Decimal.{digitsBefore}
 use Rattle.line.specs.Line.{faultLine, textLine}
 use Rattle.reply.specs.Header.{trimmed, copiedHD}
 use Rattle.reply.specs.Reply.{replyText, reply}
-use Rattle.slip.specs.Slip.{observations, observationsFrom, slipOf, slipText}
+use Rattle.slip.specs.Slot.{slipOf}
+use Rattle.slip.specs.Observations.{observations, observationsFrom}
+use Rattle.slip.specs.Slip.{slipText}
 use Rattle.slip.specs.Book.{file}
-use Rattle.slip.specs.Read.{isSlipFrom, valueFrom, readSlip}
+use Rattle.book.specs.Read.{isSlipFrom, valueFrom, readSlip}
 
 unfoldable pub computing : Unit {0}
 unfolding flatMap every some keep same first marksOf endsOutside resolvedFrom resolve digits rest twos split before ended led join closed part partStart field fieldStart ahead endsWithCR frameTests typeLeaves gathered rulesOf rows profile01 leafAt leafStart repetitions textAt startAt lookUp filledFrom fieldSeen segmentSeen view walk checks firstBroken verdict judge digitsBefore faultLine textLine trimmed copiedHD replyText reply observations observationsFrom slipOf slipText file isSlipFrom valueFrom readSlip

@@ -15,7 +15,7 @@ use Rattle.reader.specs.LookUp.{lookUp}
 use Rattle.line.specs.Line.{lookLine}
 use Rattle.reply.specs.Reply.{reply}
 use Rattle.slip.specs.Book.{file, bookAfter}
-use Rattle.slip.specs.Read.{isSlip, readSlip}
+use Rattle.book.specs.Read.{isSlip, readSlip}
 use Rattle.worked.specs.Messages.{message, msh, pid, obr, obx, M, withMSH, withPID, withOBX, twoOrders, desk, outcome, replyTo, slipOf, partLine}
 use Rattle.worked.specs.Worked.{Example, _says_, P3}
 

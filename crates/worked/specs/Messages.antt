@@ -12,7 +12,7 @@ use Rattle.text.specs.Decimal.{decimal}
 use Rattle.line.specs.Line.{deskLine, refusedLine}
 use Rattle.reply.specs.Reply.{reply}
 use Rattle.slip.specs.Book.{file}
-use Rattle.slip.specs.Read.{Part}
+use Rattle.book.specs.Read.{Part}
 
 -- lines, CR after each
 abbrev pub message : List string.String → Text

@@ -2,7 +2,7 @@
 use mathlib.Core.Path.{sym, ap, _∙_}
 use lib.ListN.{replicate}
 use Rattle.profile.specs.Profile.{profile01}
-use Rattle.slip.specs.Slip.{slotSize}
+use Rattle.slip.specs.Slot.{slotSize}
 use Rattle.slip.specs.Book.{file}
 use Rattle.slip.specs.Told.{filedOf}
 use Rattle.slips.proofs.Told.{lines-refused, lines-given}

@@ -1,7 +1,7 @@
 -- `file_accepted`: NoGroup, NoSlot, or the slip in its slot.
 use mathlib.Core.Path.{refl, sym, _∙_}
 use native.Mathlib.Omega.{arith}
-use Rattle.slip.proofs.Answers.{own-zero, own-missing, own-slot, own-slip}
+use Rattle.slip.proofs.Answers.{slot-room, own-zero, own-missing, own-slot, own-slip}
 use Rattle.slip.specs.Inner.{IsOrder}
 use borrow.Author.Needs.{needs}
 use Rattle.slip.proofs.filing.file_accepted.Statement.{statement}
@@ -12,18 +12,31 @@ returns c = let a = c .before .before .before .args in own-zero (a .m .now) (a .
 
 returns-2 : tie.Need-returns-2
 returns-2 c =
-    let s = c .before .before in
+    let n = c .before in
+    let s = n .before .before .before in
     let h = s .before .before in
     let a = h .before .before .before .before .args in
     own-slot (a .m .now) (a .group) (a .slot) (a .book .now) _ _ (omega (arith, h .before .if1 .left), sym (s .start .given .1) ∙ h .occurrence .ensures)
-    (c .if2 .taken)
+    (sym (n .no-slot .ensures) ∙ c .if2 .taken)
 
 fill-group-requires : tie.Need-fill-group-requires
 fill-group-requires c κs =
-    let s = c .before .before .before in
+    let s = c .before .before .before .before .before in
     let h = s .before .before in
     let b = h .before .before .before .before in
     (b .pre, ((b .args .group, (omega (arith, h .before .if1 .left), sym (s .start .given .1) ∙ h .occurrence .ensures)), refl))
+
+mul-put : tie.Need-mul-put
+mul-put c =
+    let there = c .before .before .before .before in
+    let b = there .before .before .before .before .before .before .before .before .before .before in
+    omega (arith, slot-room (b .args .book .now) (b .args .slot) (sym (there .before .no-slot .ensures) ∙ there .if2 .left), b .good)
+
+put-requires : tie.Need-put-requires
+put-requires c κs =
+    let there = c .before .before .before .before .before in
+    let b = there .before .before .before .before .before .before .before .before .before .before in
+    omega (arith, slot-room (b .args .book .now) (b .args .slot) (sym (there .before .no-slot .ensures) ∙ there .if2 .left))
 
 returns-3 : tie.Need-returns-3
 returns-3 c =
@@ -34,13 +47,14 @@ returns-3 c =
 returns-4 : tie.Need-returns-4
 returns-4 c =
     let w = c .before .before .before .before .before .before in
-    let f = w .before in
-    let s = f .before .before .before in
+    let there = w .before .before in
+    let n = there .before in
+    let s = n .before .before .before in
     let h = s .before .before in
     let a = h .before .before .before .before .args in
     let o : IsOrder (a .m .now) (a .group) _ _ = (omega (arith, h .before .if1 .left), sym (s .start .given .1) ∙ h .occurrence .ensures) in
     own-slip (a .m .now) (a .group) (a .slot) (a .book .now) _ _ o
-    (f .before .if2 .left) (w .fill-group .last .1 .1 .1 .0) _ _ (search needs) (w .fill-group .ensures _ o) (c .before .before .put .ensures)
+    (sym (n .no-slot .ensures) ∙ there .if2 .left) (w .fill-group .last .1 .1 .1 .0) _ _ (search needs) (w .fill-group .ensures _ o) (c .before .before .put .ensures)
 
 pub file-accepted-spec : {M : Type 1} → statement M
 file-accepted-spec =
@@ -50,12 +64,14 @@ file-accepted-spec =
     (λ c κs. search needs)
     (λ c. search needs)
     (λ c. search needs)
+    (λ c κs. search needs)
+    (λ c. search needs)
     returns-2
     (λ c. search needs)
     fill-group-requires
+    mul-put
     (λ c. search needs)
-    (λ c. search needs)
-    (λ c κs. search needs)
+    put-requires
     returns-3
     (λ c. search needs)
     returns-4)

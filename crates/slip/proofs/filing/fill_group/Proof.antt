@@ -1,7 +1,7 @@
 -- `fill_group`: the texts are copied from where the segments stand, and what is behind the OBR is counted.
 use native.Mathlib.Omega.{arith}
 use Rattle.text.specs.Bytes.{bytes}
-use Rattle.frame.proofs.Seek.{standing-inside}
+use Rattle.reader.proofs.Seek.{standing-inside}
 use Rattle.reader.proofs.Copied.{standing-stood}
 use Rattle.slip.proofs.Groups.{group-count}
 use Rattle.slip.proofs.GroupSlip.{IsRead, group-fits, group-slip}
@@ -12,8 +12,8 @@ use Rattle.slip.proofs.filing.fill_group.Reads as reads
 use Rattle.slip.proofs.filing.fill_group.Lts as lts
 use Rattle.frame.proofs.occurrence.Reads as occurrence-reads
 use Rattle.reader.proofs.text_in.Reads as text-in-reads
-use Rattle.slip.proofs.filing.observations.Reads as observations-reads
-use Rattle.slip.proofs.filling.fill.Reads as fill-reads
+use Rattle.slip.proofs.counting.observations.Reads as observations-reads
+use Rattle.slot.proofs.fill.Reads as fill-reads
 use Rattle.text.proofs.marks_of.Reads as marks-of-reads
 
 text-in-requires : tie.Need-text-in-requires
@@ -48,14 +48,14 @@ add-observations : tie.Need-add-observations
 add-observations c =
     let s = c .before .before .before .before .before .before .before .before .before .before .before in
     let o = s .pre .1 .0 in
-    let n = group-count (s .args .m .now) (o .0) _ _ (o .1) .0 in
+    let n = group-count (s .args .m .now) (o .0) _ _ (o .1 .0) (o .1 .1) .0 in
     search needs
 
 observations-requires : tie.Need-observations-requires
 observations-requires c κs =
     let s = c .before .before .before .before .before .before .before .before .before .before .before in
     let o = s .pre .1 .0 in
-    omega (arith, group-count (s .args .m .now) (o .0) _ _ (o .1) .0)
+    omega (arith, group-count (s .args .m .now) (o .0) _ _ (o .1 .0) (o .1 .1) .0)
 
 -- the five texts, when all is read
 read : (c : lts.After-observations (

@@ -1,0 +1,10 @@
+pub mod SlipField
+pub mod ReadSlip
+pub mod ValueLies
+pub mod Resolved
+pub mod Slots
+pub mod Fields
+pub mod Whole
+pub mod RoundTrip
+pub mod ReadBack
+pub mod Unique

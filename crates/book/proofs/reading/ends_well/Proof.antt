@@ -1,0 +1,35 @@
+-- `ends_well`: the tests are those of the definition, in its order.
+use Rattle.book.proofs.SlipField.{ends-as}
+use borrow.Author.Needs.{needs}
+use Rattle.book.proofs.reading.ends_well.Statement.{statement}
+use Rattle.book.proofs.reading.ends_well.Tie as tie
+
+returns : tie.Need-returns
+returns c =
+    let counted = c .before .before .before in
+    let sized = counted .before .before .before in
+    let start = sized .before .before .before .before .args in
+    ends-as (start .s .now) (start .at) (sized .number .result) (counted .number2 .result) (c .all-zero .result)
+    (sized .number .ensures) (counted .number2 .ensures) (c .all-zero .ensures)
+
+pub ends-well-spec : {M : Type 1} → statement M
+ends-well-spec =
+    tie.close
+    (tie.spec
+    (λ c. search needs)
+    (λ c. search needs)
+    (λ c. search needs)
+    (λ c. search needs)
+    (λ c κs. search needs)
+    (λ c. search needs)
+    (λ c. search needs)
+    (λ c. search needs)
+    (λ c. search needs)
+    (λ c κs. search needs)
+    (λ c. search needs)
+    (λ c. search needs)
+    (λ c. search needs)
+    (λ c. search needs)
+    (λ c. search needs)
+    (λ c κs. search needs)
+    returns)

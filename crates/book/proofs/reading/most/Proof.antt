@@ -1,0 +1,13 @@
+-- `most`: the control number's limit, or that of every other text.
+use borrow.Author.Tests.{eq-eqb, ne-eqb}
+use Rattle.book.proofs.reading.most.Statement.{statement}
+use Rattle.book.proofs.reading.most.Tie as tie
+
+returns : tie.Need-returns
+returns c = rw (eq-eqb (c .before .args .tag) 1 (c .if1 .taken))
+
+returns-2 : tie.Need-returns-2
+returns-2 c = rw (ne-eqb (c .before .args .tag) 1 (c .if1 .left))
+
+pub most-spec : {M : Type 1} → statement M
+most-spec = tie.close (tie.spec returns returns-2)

@@ -1,0 +1,166 @@
+// Reading a value from a slip of the book.
+ghost use mathlib.Core.Path.{_≡_};
+ghost use mathlib.Core.List.{[]};
+ghost use Prim.Native.Nat.{_+_, _*_, _≤_};
+ghost use lib.ListN.{length, drop};
+ghost use Rattle.text.specs.Bytes.{every, printable};
+ghost use Rattle.reader.specs.Part.{VeryPart};
+ghost use Rattle.slip.specs.Slot.{slotSize};
+ghost use Rattle.book.specs.Read.{mostOf, isZero, isSlipFrom, readSlip};
+ghost use Rattle.book.specs.Told.{valueOf, startOf, endOf};
+ghost use Rattle.book.specs.Inner.{ReadsField, readIn, Inside};
+ghost use Rattle.book.specs.Promise.{ReadsSlip};
+use crate::Value;
+use slip::no_slot;
+use text::Refusal;
+use text::is_printable;
+
+// A field of text as it stands in a slip: bad, or where the next field begins.
+enum Field {
+    Bad,
+    Ends(usize),
+}
+
+// The greatest length of a tag's value.
+fn most(tag: u8) -> usize
+    ensures { λ r. ⌜ r ≡ mostOf tag ⌝ }
+{
+    if tag == 1 {
+        return 20;
+    }
+    199
+}
+
+// The number in two bytes, high byte first.
+fn number(high: u8, low: u8) -> usize
+    ensures { λ r. ⌜ r ≡ high * 256 + low ⌝ }
+{
+    (high as usize) * 256 + low as usize
+}
+
+fn all_printable(t: &[u8]) -> bool
+    ensures { λ r. ⌜ r ≡ every printable (now (t .entry)) ⌝ }
+{
+    let mut ok = true;
+    let mut i = 0;
+    while i < t.len() {
+        ok = ok & is_printable(t[i]);
+        i += 1;
+    }
+    ok
+}
+
+fn all_zero(t: &[u8]) -> bool
+    ensures { λ r. ⌜ r ≡ every isZero (now (t .entry)) ⌝ }
+{
+    let mut ok = true;
+    let mut i = 0;
+    while i < t.len() {
+        ok = ok & (t[i] == 0);
+        i += 1;
+    }
+    ok
+}
+
+// The field of tag 1 to 5 at a place of the slip. Only tag 3 may be left out.
+fn read_field(s: &[u8], at: usize, tag: u8) -> Field
+    requires { ⌜ at + 202 ≤ length (now s) ⌝ }
+    ensures { λ r. ⌜ ReadsField (now (s .entry)) at tag r ⌝ }
+{
+    if s[at] != tag {
+        if tag == 3 {
+            return Field::Ends(at);
+        }
+        return Field::Bad;
+    }
+    let n = number(s[at + 1], s[at + 2]);
+    if !((1 <= n) & (n <= most(tag))) {
+        return Field::Bad;
+    }
+    let start = at + 3;
+    let end = start + n;
+    if !all_printable(&s[start..end]) {
+        return Field::Bad;
+    }
+    Field::Ends(end)
+}
+
+// The count in its two bytes, then zeros.
+fn ends_well(s: &[u8], at: usize) -> bool
+    requires { ⌜ at + 5 ≤ length (now s) ⌝ }
+    ensures { λ r. ⌜ r ≡ isSlipFrom [] (drop at (now (s .entry))) ⌝ }
+{
+    let size = number(s[at + 1], s[at + 2]);
+    let count = number(s[at + 3], s[at + 4]);
+    (s[at] == 6) & (size == 2) & (count <= 509) & all_zero(&s[at + 5..])
+}
+
+// BAD SLIP, NO TAG, or where the tag's value lies in the book: the slip s begins at `base` of the book.
+fn read_in(s: &[u8], base: usize, tag: u64) -> Value
+    requires { ⌜ (length (now s) ≡ slotSize) × (base + slotSize ≤ 18446744073709551615) ⌝ }
+    ensures { λ r. ⌜ valueOf r ≡ readIn (now (s .entry)) base tag ⌝ }
+{
+    let mut found = Value::Refused(Refusal::NoTag);
+    let mut at = 0;
+    let mut k: u8 = 1;
+    while k < 6 {
+        let Field::Ends(end) = read_field(s, at, k) else {
+            return Value::Refused(Refusal::BadSlip);
+        };
+        if (tag == k as u64) & (at < end) {
+            found = Value::Part {
+                start: base + at + 3,
+                end: base + end,
+            };
+        }
+        at = end;
+        k += 1;
+    }
+    if !ends_well(s, at) {
+        return Value::Refused(Refusal::BadSlip);
+    }
+    if tag == 6 {
+        return Value::Part {
+            start: base + at + 3,
+            end: base + at + 5,
+        };
+    }
+    found
+}
+
+// The value of a tag of the slip in a slot: for callers that want the numbers and not the part.
+pub fn find_value(book: &[u8], slot: usize, tag: u64) -> Value
+    ensures { λ r. ⌜ valueOf r ≡ readSlip (now (book .entry)) slot tag ⌝ }
+{
+    if no_slot(book, slot) {
+        return Value::Refused(Refusal::NoSlot);
+    }
+    let base = slot * 1024;
+    read_in(&book[base..base + 1024], base, tag)
+}
+
+// The very part of the book that was found: no bytes, at its start, where it is refused.
+fn part_of<'a>(book: &'a [u8], v: Value) -> &'a [u8]
+    requires { ⌜ Inside v (length (now book)) ⌝ }
+    ensures { λ r. ⌜ VeryPart r (book .entry) (startOf v) (endOf v) ⌝ }
+{
+    match v {
+        Value::Part { start, end } => &book[start..end],
+        Value::Refused(_) => &book[0..0],
+    }
+}
+
+// A reading's sort beside the very part of the book: of a refusal, no bytes at the book's start.
+pub struct SlipValue<'a> {
+    pub sort: Value,
+    pub value: &'a [u8],
+}
+
+// Reads the value of a tag of the slip in a slot.
+pub fn read_slip<'a>(book: &'a [u8], slot: usize, tag: u64) -> SlipValue<'a>
+    ensures { λ r. ⌜ ReadsSlip (book .entry) slot tag r ⌝ }
+{
+    let sort = find_value(book, slot, tag);
+    let value = part_of(book, sort);
+    SlipValue { sort, value }
+}

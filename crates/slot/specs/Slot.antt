@@ -1,0 +1,28 @@
+-- The fields of a slip, and the slot that they fill: their exact bytes.
+use Prim.Native.Nat.{ℕ, _/_, _%_, _-_}
+use mathlib.Core.List.{List, [], _∷_, _++_, flatMap}
+use lib.ListN.{length, replicate}
+use Rattle.text.specs.Bytes.{Text, pick, empty}
+
+-- two bytes, high byte first
+abbrev pub twoBytes : ℕ → Text
+twoBytes n = (n / 256 % 256) ∷ (n % 256) ∷ []
+
+-- a field of a slip
+pub record Tagged : Type 0 where
+  pub tag : ℕ
+  pub value : Text
+
+abbrev pub tagged : ℕ → Text → Tagged
+tagged k t = record { tag = k; value = t }
+
+-- the tag, the length and the value; an Empty value is left out
+abbrev pub tagBytes : Tagged → Text
+tagBytes f = pick (empty (f .value)) [] (f .tag ∷ (twoBytes (length (f .value)) ++ f .value))
+
+abbrev pub slotSize : ℕ
+slotSize = 1024
+
+-- the fields one after another, and zeros to the end of the slot
+unfoldable pub slipOf : List Tagged → Text
+slipOf fs = let t = flatMap tagBytes fs in t ++ replicate (slotSize - length t) 0

@@ -1,0 +1,61 @@
+// The slot: filling one that is all zeros with a slip.
+ghost use mathlib.Core.Path.{_≡_};
+ghost use Prim.Native.Nat.{_+_, _≤_};
+ghost use lib.ListN.{length, replicate};
+ghost use Rattle.escape.specs.Escape.{resolved};
+ghost use Rattle.text.specs.Puts.{Puts};
+ghost use Rattle.slot.specs.Slot.{twoBytes, tagged, tagBytes, slotSize, slipOf};
+ghost use Rattle.slot.specs.Inner.{Fits, valuesOf};
+use text::Marks;
+use escape::put_resolved;
+use escape::resolved_len;
+
+// A field: its tag, its length and its resolved text; an Empty one is left out.
+fn put_text(slip: &mut [u8], at: usize, tag: u8, q: Marks, t: &[u8]) -> usize
+    requires { ⌜ Fits q (now t) × (at + length (tagBytes (tagged tag (resolved q (now t)))) ≤ length (now slip)) ⌝ }
+    ensures { λ r. ⌜ Puts (now (slip .entry)) at (tagBytes (tagged tag (resolved q (now (t .entry))))) (now (slip .exit)) r ⌝ }
+{
+    let n = resolved_len(q, t);
+    if n == 0 {
+        return at;
+    }
+    slip[at] = tag;
+    slip[at + 1] = 0;
+    slip[at + 2] = n as u8;
+    put_resolved(slip, at + 3, q, t)
+}
+
+// The last field: the group's OBX count in two bytes.
+fn put_count(slip: &mut [u8], at: usize, n: u64)
+    requires { ⌜ at + 5 ≤ length (now slip) ⌝ }
+    ensures { λ _. ⌜ Puts (now (slip .entry)) at (tagBytes (tagged 6 (twoBytes n))) (now (slip .exit)) (at + 5) ⌝ }
+{
+    slip[at] = 6;
+    slip[at + 1] = 0;
+    slip[at + 2] = 2;
+    slip[at + 3] = (n / 256 % 256) as u8;
+    slip[at + 4] = (n % 256) as u8;
+}
+
+// A slip of the five texts and the count, in a slot of zeros. Inner: the callers hold that each text fits.
+pub fn fill(
+    slip: &mut [u8],
+    q: Marks,
+    control: &[u8],
+    patient: &[u8],
+    placer: &[u8],
+    filler: &[u8],
+    service: &[u8],
+    count: u64,
+)
+    requires { ⌜ now slip ≡ replicate slotSize 0 ⌝ }
+    requires { ⌜ Fits q (now control) × (Fits q (now patient) × (Fits q (now placer) × (Fits q (now filler) × Fits q (now service)))) ⌝ }
+    ensures { λ _. ⌜ now (slip .exit) ≡ slipOf (valuesOf q (now (control .entry)) (now (patient .entry)) (now (placer .entry)) (now (filler .entry)) (now (service .entry)) count) ⌝ }
+{
+    let a = put_text(slip, 0, 1, q, control);
+    let b = put_text(slip, a, 2, q, patient);
+    let c = put_text(slip, b, 3, q, placer);
+    let d = put_text(slip, c, 4, q, filler);
+    let e = put_text(slip, d, 5, q, service);
+    put_count(slip, e, count);
+}
