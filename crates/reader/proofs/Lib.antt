@@ -24,3 +24,5 @@ pub mod Unique
 pub mod Copied
 pub mod Plain
 pub mod Patient
+pub mod EachCheck
+pub mod Reasons
