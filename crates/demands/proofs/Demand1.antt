@@ -49,7 +49,7 @@ use Rattle.demands.proofs.Judged.{judged}
 
 -- 1. An answer by ordered refusals is in their order
 module _ {A : Type 0} (order : List ℕ) (ts : List Test) (numbered : numbers ts ≡ order) where
-  in-order : (asked : A) (a : Answer A) → a ≡ first ts asked → InOrder order ts a
+  pub in-order : (asked : A) (a : Answer A) → a ≡ first ts asked → InOrder order ts a
   in-order asked a e =
       record {
         numbered = numbered;

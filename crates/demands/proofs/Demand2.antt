@@ -30,11 +30,12 @@ use Rattle.reader.specs.declared.search.LookedUp.{LookedUp}
 use Rattle.reader.specs.Place.{Place, textAt, startAt}
 use Rattle.reader.specs.LookUp.{Empty, Text-from-to, shown, found, lookUpTests, lookUp}
 use Rattle.reader.specs.Told.{placeOf, foundOf}
-use Rattle.reader.specs.Fault.{checks, noneBroken, verdict, judge}
+use Rattle.reader.specs.Fault.{checks, noneBroken, fault, verdict, judge}
 use Rattle.reader.specs.Promise.{LooksUp, Judges}
 use Rattle.reader.proofs.LookUp.{shown-step}
 use Rattle.reader.proofs.Part.{looked-up-text}
 use Rattle.reader.proofs.Accepted.{judged-accepted, accepted-judged, judged-fault}
+use Rattle.reader.proofs.Reasons.{fault-reason01}
 use Rattle.reader.proofs.Unique.{verdict-same}
 use Rattle.reply.specs.Reply.{noControl, replyText, replyTests, reply}
 use Rattle.reply.specs.Promise.{Replies}
@@ -59,6 +60,12 @@ otherwise m (Refused x) h g b =
     absurd (let z : _≡_ {A = ℕ} 0 1 = cc in omega arith)
 otherwise m Accepted h g b = not-true (sym b ∙ judged-accepted profile01 m (sym h) .1)
 otherwise m (Fault f) h g b = (f, refl)
+
+reason : (m : Text) (f : code-fault.Fault) → Judges profile01 m (Fault f) → (1 ≤ f .reason) × (f .reason ≤ 12)
+unfolding judge
+reason m f h =
+    let p = placeOf (f .place) in
+    fault-reason01 m p (f .reason) (sym (first-asked (frameTests m) (verdict profile01 m) (fault p (f .reason)) h))
 
 -- 2. Looking up
 -- where a text is found, it starts there, and some byte stands there; where Empty is, none
@@ -178,6 +185,8 @@ demand2 =
       faultless = λ m r h f n. verdict-same r Accepted (h ∙ accepted-judged profile01 m f n);
       otherwise = otherwise;
       fault = λ m f h. judged-fault profile01 m (placeOf (f .place)) (f .reason) (sym h);
+      reason = reason;
+      conditions = refl;
       text = λ m p r a e l s. text m p r l a e s;
       nothing = λ m p r l s. nothing m p r l s;
       resolves = resolves;

@@ -7,7 +7,7 @@
 use mathlib.Core.Path.{_≡_}
 use Prim.Native.Nat.{ℕ, _+_, _*_, _≤_}
 use mathlib.Core.Bool.{true, false}
-use mathlib.Core.List.{[]}
+use mathlib.Core.List.{[], _∷_, map}
 use mathlib.Core.Option.{some}
 use lib.ListN.{length, take, drop}
 use denote.Ref.{RefT}
@@ -25,7 +25,7 @@ use Rattle.reader.specs.declared.Verdict.{Verdict}
 use Rattle.reader.specs.declared.Verdict.the-variants.{Accepted, Fault}
 use Rattle.reader.specs.declared.search.LookedUp.{LookedUp}
 use Rattle.reader.specs.Place.{Place, textAt, startAt}
-use Rattle.reader.specs.Fault.{checks, noneBroken, FirstBroken}
+use Rattle.reader.specs.Fault.{checks, noneBroken, FirstBroken, condition}
 use Rattle.reader.specs.Told.{placeOf}
 use Rattle.reader.specs.Part.{VeryPart}
 use Rattle.reader.specs.Promise.{LooksUp, Judges}
@@ -80,6 +80,11 @@ pub record Demand2 : Type 0 where
   pub fault :
       (m : Text) (f : code.Fault) → Judges profile01 m (Fault f)
       → (framed m ≡ true) × FirstBroken (checks profile01 m) (placeOf (f .place)) (f .reason)
+  -- ITS REASON is 1 to 12, and each of these has 01's condition code
+  pub reason : (m : Text) (f : code.Fault) → Judges profile01 m (Fault f) → (1 ≤ f .reason) × (f .reason ≤ 12)
+  pub conditions :
+      map condition (1 ∷ 2 ∷ 3 ∷ 4 ∷ 5 ∷ 6 ∷ 7 ∷ 8 ∷ 9 ∷ 10 ∷ 11 ∷ 12 ∷ [])
+      ≡ 100 ∷ 100 ∷ 101 ∷ 102 ∷ 102 ∷ 102 ∷ 102 ∷ 103 ∷ 200 ∷ 201 ∷ 202 ∷ 203 ∷ []
   -- A TEXT that is looked up is what stands at that place of the caller's message; where Empty is answered, nothing stands there
   pub text :
       (m : RefT Text) (p : code-place.Place) (r : LookedUp) (a e : ℕ) → LooksUp m p r → r .sort ≡ found.Text a e

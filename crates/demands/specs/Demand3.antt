@@ -55,9 +55,9 @@ pub record Same {R : Type 0} (came struck : R → Type 0) : Type 0 where
   pub as-struck : (r : R) → came r → struck r
   pub equal : (r s : R) → came r → struck s → r ≡ s
 
-pub record SameAfter {R : Type 0} (came struck : R → Text → Type 0) : Type 0 where
-  pub as-struck : (r : R) (after : Text) → came r after → struck r after
-  pub equal : (r s : R) (after after' : Text) → came r after → struck s after' → (r ≡ s) × (after ≡ after')
+pub record SameAfter {R L : Type 0} (came struck : R → L → Type 0) : Type 0 where
+  pub as-struck : (r : R) (after : L) → came r after → struck r after
+  pub equal : (r s : R) (after after' : L) → came r after → struck s after' → (r ≡ s) × (after ≡ after')
 
 -- the same for a look-up, whose answers are compared by their bytes
 pub record SameShown (p : code.Place) (came struck : RefT Text) : Type 0 where

@@ -10,11 +10,11 @@ ghost use Rattle.text.specs.Puts.{Puts};
 ghost use Rattle.text.specs.Limits.{tooLong};
 ghost use Rattle.heading.specs.Header.{orEmpty, copiedHD, processing, replyHeader};
 ghost use Rattle.heading.specs.Inner.{IsHeader, ended};
-use reader::Standing;
+use escape::bad_escape;
 use profile::is_in_list;
+use reader::Standing;
 use reader::text_in;
 use text::Marks;
-use escape::bad_escape;
 use text::marks_of;
 use text::put;
 

@@ -6,9 +6,9 @@ ghost use Rattle.escape.specs.Escape.{resolved};
 ghost use Rattle.text.specs.Puts.{Puts};
 ghost use Rattle.slot.specs.Slot.{twoBytes, tagged, tagBytes, slotSize, slipOf};
 ghost use Rattle.slot.specs.Inner.{Fits, valuesOf};
-use text::Marks;
 use escape::put_resolved;
 use escape::resolved_len;
+use text::Marks;
 
 // A field: its tag, its length and its resolved text; an Empty one is left out.
 fn put_text(slip: &mut [u8], at: usize, tag: u8, q: Marks, t: &[u8]) -> usize

@@ -1,0 +1,52 @@
+-- A FAULT'S REASON IS 1 TO 12: those of the walk are 1 to 7, and a leaf's own is what the table says.
+use mathlib.Core.Path.{_≡_, refl}
+use Prim.Native.Nat.{ℕ, _≤_}
+use mathlib.Core.Bool.{Bool, true}
+use lib.Dec.{leb}
+use borrow.Author.Tests.{leb-true}
+use Rattle.text.specs.Bytes.{Text, every}
+use Rattle.text.specs.Limits.{_to_, isWithin}
+use Rattle.text.proofs.Tests.{both}
+use Rattle.profile.specs.Table.{Table, Leaf}
+use Rattle.profile.specs.Rows.{rows}
+use Rattle.profile.specs.Profile.{profile01}
+use Rattle.checks.specs.Place.{Place}
+use Rattle.checks.specs.Fault.{fault, verdict}
+use Rattle.accepted.proofs.EachCheck.{tablePasses, verdict-all}
+
+abbrev isReason : ℕ → Bool
+isReason n = isWithin (1 to 12) n
+
+-- a table whose leaves have reasons from 1 to 12
+abbrev anyField : ℕ → Bool
+anyField f = true
+
+abbrev reasonFits : Leaf → Bool
+reasonFits l = isReason (l .reason)
+
+abbrev pub reasonsFit : Table → Bool
+reasonsFit T = tablePasses anyField reasonFits T
+
+-- by any such table
+pub fault-reason : (T : Table) → reasonsFit T ≡ true → (m : Text) (p : Place) (n : ℕ) → verdict T m ≡ fault p n → (1 ≤ n) × (n ≤ 12)
+fault-reason T ok m p n e =
+    let v =
+    verdict-all anyField reasonFits (λ x. Unit) (λ p n. isReason n ≡ true) T ok
+    (record {
+      out-of-place = λ x o h. refl;
+      end = λ x o h. refl;
+      missing = λ x o f h g. refl;
+      surplus = λ x o f r h g. refl;
+      leaf = λ x o f r l h g fits. (refl, (refl, (refl, (refl, (fits, tt)))));
+    })
+    tt (λ s. tt) m in
+    let w = both (leb 1 n) (leb n 12) (rw e at v) in
+    (leb-true 1 n (w .0), leb-true n 12 (w .1))
+
+-- 01's table is one
+profile-reasons : reasonsFit profile01 ≡ true
+unfolding tablePasses every profile01 rows
+profile-reasons = refl
+
+pub fault-reason01 : (m : Text) (p : Place) (n : ℕ) → verdict profile01 m ≡ fault p n → (1 ≤ n) × (n ≤ 12)
+fault-reason01 = fault-reason profile01 profile-reasons
