@@ -17,7 +17,7 @@ use Rattle.text.proofs.Tests.{empty-some}
 use Rattle.escape.proofs.Escapes.{resolved-length}
 use Rattle.profile.specs.Profile.{profile01}
 use Rattle.reader.specs.Place.{place, textAt}
-use Rattle.slip.specs.Observations.{observationsOf}
+use Rattle.reader.specs.Observations.{observationsOf}
 use Rattle.slip.specs.Slot.{Tagged, twoBytes}
 use Rattle.slip.specs.Slip.{resolvedAt, slipValues, slipText}
 use Rattle.slip.specs.Book.{noSlot, file, bookAfter}

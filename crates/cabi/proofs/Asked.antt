@@ -13,7 +13,7 @@ use Rattle.frame.specs.Frame.{frameTests}
 use Rattle.frame.specs.Segments.{isName}
 use Rattle.reader.specs.Place.{Place, isPlace}
 use Rattle.reader.specs.LookUp.{lookUp, found}
-use Rattle.cabi.specs.Told.{asked}
+use Rattle.numbers.specs.Told.{asked}
 use Rattle.cabi.specs.Inner.{SameLookUp}
 
 -- a name of three bytes is those three

@@ -3,7 +3,7 @@ use mathlib.Core.Path.{_≡_, refl}
 use Rattle.text.specs.Bytes.{Text}
 use Rattle.text.specs.Answer.{Answer, refused, given}
 use Rattle.slip.specs.Told.{done}
-use Rattle.cabi.specs.Told.{status}
+use Rattle.numbers.specs.Told.{status}
 
 pub status-done : (a : Answer Text) → status (done a) ≡ status a
 status-done (refused x) = refl

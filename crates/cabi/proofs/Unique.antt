@@ -5,7 +5,7 @@ use mathlib.Core.List.{List}
 use Rattle.text.specs.Bytes.{Text}
 use Rattle.text.specs.Answer.{Answer}
 use Rattle.profile.specs.Table.{Table}
-use Rattle.cabi.specs.Told.{Tells}
+use Rattle.numbers.specs.Told.{Tells}
 use Rattle.cabi.specs.Promise.{JudgeTells, LookUpTells, Writes, ResolveTells, ReplyTells, FileTells, ReadTells}
 
 -- of any answer told by numbers

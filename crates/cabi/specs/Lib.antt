@@ -1,3 +1,3 @@
-pub mod Told
+pub use Rattle.numbers.specs.Told
 pub mod Promise
 pub mod Inner

@@ -13,7 +13,7 @@ use Rattle.reader.specs.Fault.{judge}
 use Rattle.reply.specs.Reply.{reply}
 use Rattle.slip.specs.Book.{file, bookAfter}
 use Rattle.book.specs.Read.{readSlip}
-use Rattle.cabi.specs.Told.{status, Tells, verdictNumbers, foundNumbers, asked, sizeNumbers, partNumbers}
+use Rattle.numbers.specs.Told.{status, Tells, verdictNumbers, foundNumbers, asked, sizeNumbers, partNumbers}
 
 -- JUDGING m by a table: ten numbers
 abbrev pub JudgeTells : Table → Text → List ℕ → ℕ → List ℕ → Type 0

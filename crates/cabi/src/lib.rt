@@ -3,19 +3,18 @@ ghost use Rattle.profile.specs.Profile.{profile01};
 ghost use Rattle.cabi.specs.Promise.{JudgeTells, LookUpTells, ResolveTells, ReplyTells, FileTells, ReadTells};
 
 mod place;
-mod tell;
 
 use book::find_value;
 use escape::resolve;
+use numbers::tell_filed;
+use numbers::tell_found;
+use numbers::tell_value;
+use numbers::tell_verdict;
+use numbers::tell_written;
 use place::place_asked;
 use reader::find;
 use reader::judge;
 use slip::file;
-use tell::tell_filed;
-use tell::tell_found;
-use tell::tell_value;
-use tell::tell_verdict;
-use tell::tell_written;
 
 // Judges a message.
 #[no_mangle]

@@ -2,7 +2,7 @@
 ghost use mathlib.Core.Path.{_≡_};
 ghost use mathlib.Core.List.{[], _∷_};
 ghost use Rattle.reader.specs.Told.{placeOf};
-ghost use Rattle.cabi.specs.Told.{asked};
+ghost use Rattle.numbers.specs.Told.{asked};
 ghost use Rattle.cabi.specs.Inner.{SameLookUp};
 use reader::Place;
 

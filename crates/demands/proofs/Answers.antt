@@ -25,7 +25,7 @@ use Rattle.reader.specs.Fault.{checks, verdict, judge}
 use Rattle.reader.proofs.Stands.{text-stands}
 use Rattle.reply.specs.Header.{headerLeaf, copiedHD}
 use Rattle.reply.specs.Reply.{replyText, reply}
-use Rattle.slip.specs.Observations.{observations, observationsFrom, observationsOf}
+use Rattle.reader.specs.Observations.{observations, observationsFrom, observationsOf}
 use Rattle.slip.specs.Slip.{slipText}
 use Rattle.slip.specs.Book.{file}
 use Rattle.demands.specs.Strike.{isListedPlace, strikeSegment, strike}

@@ -21,7 +21,7 @@ use Rattle.reader.specs.declared.Verdict.the-variants.{Accepted}
 use Rattle.reader.specs.Promise.{Judges}
 use Rattle.parts.proofs.Members.{append-all, picked}
 use Rattle.reader.proofs.Accepted.{judged-accepted}
-use Rattle.slip.specs.Observations.{observations, observationsFrom}
+use Rattle.reader.specs.Observations.{observations, observationsFrom}
 use Rattle.demands.specs.Idle.{observationsIn, groups, together}
 
 abbrev order : Text

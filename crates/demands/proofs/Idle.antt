@@ -15,7 +15,7 @@ use Rattle.reader.proofs.Unique.{verdict-same}
 use Rattle.slip.specs.declared.Filed.{Filed}
 use Rattle.slip.specs.declared.Filed.the-variants.{Slip}
 use Rattle.slip.specs.Slot.{twoBytes}
-use Rattle.slip.specs.Observations.{observationsOf}
+use Rattle.reader.specs.Observations.{observationsOf}
 use Rattle.slip.specs.Slip.{resolvedAt, slipText, slipValues}
 use Rattle.slip.specs.Book.{noGroup, noSlot, bookAfter}
 use Rattle.slip.specs.Inner.{ownFiling, FilesOwn}

@@ -15,7 +15,7 @@ use Rattle.reader.specs.Promise.{Judges}
 use Rattle.slip.specs.declared.Filed.{Filed}
 use Rattle.slip.specs.declared.Filed.the-variants.{Slip}
 use Rattle.slip.specs.Slot.{twoBytes}
-use Rattle.slip.specs.Observations.{observationsOf}
+use Rattle.reader.specs.Observations.{observationsOf}
 use Rattle.slip.specs.Slip.{resolvedAt}
 use Rattle.slip.specs.Book.{noSlot}
 use Rattle.slip.specs.Promise.{Files}

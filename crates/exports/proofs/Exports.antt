@@ -19,7 +19,8 @@ use Rattle.reader.specs.LookUp.{Found, Text-from-to, found, lookUpTests, lookUp
 use Rattle.reader.specs.Fault.{Verdict, accepted, fault, verdict, judge}
 use Rattle.reader.proofs.Reasons.{fault-reason01}
 use Rattle.reply.specs.Reply.{replyTests, replyText, reply}
-use Rattle.slip.specs.Slip.{slotSize, slipText}
+use Rattle.slip.specs.Slot.{slotSize}
+use Rattle.slip.specs.Slip.{slipText}
 use Rattle.slip.specs.Book.{fileTests, file, bookAfter}
 use Rattle.book.specs.Read.{slot, expected, valueFrom, orNothing, readTests, readSlip}
 use Rattle.slip.specs.Told.{done}

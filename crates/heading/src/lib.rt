@@ -11,8 +11,8 @@ ghost use Rattle.text.specs.Limits.{tooLong};
 ghost use Rattle.heading.specs.Header.{orEmpty, copiedHD, processing, replyHeader};
 ghost use Rattle.heading.specs.Inner.{IsHeader, ended};
 use escape::bad_escape;
-use profile::is_in_list;
 use reader::Standing;
+use reader::is_processing_id;
 use reader::text_in;
 use text::Marks;
 use text::marks_of;
@@ -68,7 +68,7 @@ fn put_processing(out: &mut [u8], at: usize, t: &[u8]) -> usize
     requires { ⌜ at + length (processing (now t)) ≤ length (now out) ⌝ }
     ensures { λ r. ⌜ Puts (now (out .entry)) at (processing (now (t .entry))) (now (out .exit)) r ⌝ }
 {
-    if is_in_list(3, t) {
+    if is_processing_id(t) {
         return put(out, at, t);
     }
     put(out, at, b"P")

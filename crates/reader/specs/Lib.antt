@@ -1,3 +1,4 @@
+pub use Rattle.groups.specs.Observations
 pub use Rattle.checks.specs.Place
 pub use Rattle.checks.specs.View
 pub use Rattle.checks.specs.Fault

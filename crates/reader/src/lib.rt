@@ -7,6 +7,7 @@ mod standing;
 mod texts;
 
 pub use checks::condition;
+pub use groups::observations;
 pub use judging::judge;
 pub use places::is_place;
 pub use search::LookedUp;

@@ -16,7 +16,7 @@ use Rattle.profile.specs.Profile.{profile01}
 use Rattle.reader.specs.Fault.{verdict, accepted}
 use Rattle.frame.proofs.Header.{header-opens}
 use Rattle.reader.proofs.Patient.{patient-stands}
-use Rattle.slip.specs.Observations.{observations, observationsFrom, observationsOf}
+use Rattle.reader.specs.Observations.{observations, observationsFrom, observationsOf}
 
 -- how many members two tests keep that never hold together
 module _ {A : Type 0} (f g : A → Bool) (apart : (x : A) → f x ≡ true → g x ≡ false) where

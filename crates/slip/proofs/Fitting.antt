@@ -8,7 +8,7 @@ use Rattle.escape.specs.Escape.{badEscape}
 use Rattle.text.specs.Marks.{marksOf}
 use Rattle.text.specs.declared.marks.Marks.{Marks}
 use Rattle.reader.specs.Place.{place, textAt}
-use Rattle.slip.specs.Observations.{observationsOf}
+use Rattle.reader.specs.Observations.{observationsOf}
 
 -- a text that a slip takes, and one that it must have
 pub record Taken (q : Marks) (most : ℕ) (t : Text) : Type 0 where

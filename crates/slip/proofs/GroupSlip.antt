@@ -20,7 +20,7 @@ use Rattle.reader.specs.Place.{place, leafAt, textAt}
 use Rattle.reader.proofs.Copied.{copied-text}
 use Rattle.slot.specs.Slot.{slipOf}
 use Rattle.slot.specs.Inner.{Fits, valuesOf}
-use Rattle.slip.specs.Observations.{observations, observationsOf}
+use Rattle.reader.specs.Observations.{observations, observationsOf}
 use Rattle.slip.specs.Slip.{slipText}
 use Rattle.slip.specs.Inner.{IsOrder}
 use Rattle.slip.proofs.Fitting.{Taken}

@@ -9,56 +9,17 @@ use lib.ListN.{length, getD, drop, length-drop}
 use lib.Seq.{length-take-le, drop-drop}
 use lib.Dec.{ltb}
 use borrow.Author.Tests.{ltb-true, ltb-false}
-use Rattle.text.specs.Bytes.{Text, pick, bytes, cr, keep, within}
+use Rattle.text.specs.Bytes.{Text, pick, bytes, cr, keep}
 use Rattle.parts.specs.Split.{before, reach, ended}
 use Rattle.parts.proofs.Split.{before-first}
-use Rattle.parts.proofs.Reach.{ended-next, ended-last, before-next, ended-on, ended-end}
+use Rattle.parts.proofs.Reach.{ended-next, ended-last, before-next}
 use Rattle.parts.proofs.Descent.{within-length}
 use Rattle.reader.specs.declared.standing.Standing.the-variants.{Segment}
 use Rattle.frame.specs.Segments.{segments, named, ofName, ahead}
 use Rattle.reader.specs.Copied.{standing}
 use Rattle.frame.proofs.Segments.{ahead-named}
 use Rattle.reader.proofs.Seek.{standing-enough, standing-start, standing-inside, standing-text}
-use Rattle.slip.specs.Observations.{observations, observationsFrom, observationsOf}
-
--- so many are counted when the walk stands at a segment's start
-pub record Counting (m : Text) (from count start end : ℕ) : Type 0 where
-  pub inside : start ≤ length m
-  pub ends : end ≡ start + reach cr (drop start m)
-  pub few : count ≤ start
-  pub told : count + observations (segments (drop start m)) ≡ observations (segments (drop from m))
-
-pub counting-first : (m : Text) (from end : ℕ) → from ≤ length m → end ≡ from + reach cr (drop from m) → Counting m from 0 from end
-counting-first m from end h e = record { inside = h; ends = e; few = omega arith; told = omega arith }
-
-module _ (m : Text) (from count start end : ℕ) (w : Counting m from count start end) where
-  module _ (more : end < length m) (r : Bool) (read : r ≡ named (bytes "OBR") (within start end m)) where
-    abbrev s : Text
-    s = within start end m
-
-    next : segments (drop start m) ≡ s ∷ segments (drop (end + 1) m)
-    next = ended-on cr m start end (w .inside) (w .ends) more
-
-    pub counting-stop : r ≡ true → count ≡ observations (segments (drop from m))
-    unfolding observations
-    counting-stop e = let t = rw (next, ← read, e) at (w .told) in omega arith
-
-    module _ (other : r ≡ false) (x : Bool) (seen : x ≡ named (bytes "OBX") s) (end' : ℕ) (e' : end' ≡ end + 1 + reach cr (drop (end + 1) m)) where
-      pub counting-more : x ≡ true → Counting m from (count + 1) (end + 1) end'
-      unfolding observations
-      counting-more e =
-          let t = rw (next, ← read, other, ← seen, e) at (w .told) in
-          record { inside = omega arith; ends = e'; few = omega (arith, w .few, w .ends); told = omega arith }
-
-      pub counting-on : x ≡ false → Counting m from count (end + 1) end'
-      unfolding observations
-      counting-on e =
-          let t = rw (next, ← read, other, ← seen, e) at (w .told) in
-          record { inside = omega arith; ends = e'; few = omega (arith, w .few, w .ends); told = t }
-
-  pub counting-all : length m ≤ end → count ≡ observations (segments (drop from m))
-  unfolding observations
-  counting-all none = let t = rw (ended-end cr m start end (w .inside) (w .ends) none) at (w .told) in omega arith
+use Rattle.reader.specs.Observations.{observations, observationsFrom, observationsOf}
 
 -- where a piece that a separator ends stands, and what stands behind it
 module _ (sep : ℕ) where

@@ -1,5 +1,4 @@
 pub use Rattle.slot.specs.Slot
-pub mod Observations
 pub mod Slip
 pub mod Book
 pub mod Told

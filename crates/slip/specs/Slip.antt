@@ -6,7 +6,7 @@ use Rattle.text.specs.Marks.{marksOf}
 use Rattle.escape.specs.Escape.{resolved}
 use Rattle.reader.specs.Place.{place, textAt}
 use Rattle.slot.specs.Slot.{Tagged, tagged, twoBytes, slipOf}
-use Rattle.slip.specs.Observations.{observationsOf}
+use Rattle.reader.specs.Observations.{observationsOf}
 
 -- component 1 of a field of a segment, resolved
 abbrev pub resolvedAt : Text → Text → ℕ → ℕ → Text

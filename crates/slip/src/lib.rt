@@ -1,5 +1,4 @@
 // The slip of a group, and filing it in the slip book.
-mod counting;
 mod filing;
 
 pub use filing::file;

@@ -21,7 +21,7 @@ use Rattle.line.specs.Line.{faultLine, textLine}
 use Rattle.reply.specs.Header.{trimmed, copiedHD}
 use Rattle.reply.specs.Reply.{replyText, reply}
 use Rattle.slip.specs.Slot.{slipOf}
-use Rattle.slip.specs.Observations.{observations, observationsFrom}
+use Rattle.reader.specs.Observations.{observations, observationsFrom}
 use Rattle.slip.specs.Slip.{slipText}
 use Rattle.slip.specs.Book.{file}
 use Rattle.book.specs.Read.{isSlipFrom, valueFrom, readSlip}

@@ -2,7 +2,7 @@
 use mathlib.Core.Path.{ap, _∙_}
 use Rattle.profile.specs.Profile.{profile01}
 use Rattle.slip.specs.Book.{file}
-use Rattle.cabi.specs.Told.{status}
+use Rattle.numbers.specs.Told.{status}
 use Rattle.cabi.proofs.Done.{status-done}
 use borrow.Author.Needs.{needs}
 use Rattle.cabi.proofs.ithwyral_file.Statement.{statement}

@@ -9,27 +9,27 @@ put-requires : tie.Need-put-requires
 put-requires c κs =
     let i = c .before .before in
     let b = i .before .before .before in
-    let h = rw (sym (i .is-in-list .ensures) ∙ c .before .if1 .taken) at (b .pre) in
+    let h = rw (sym (i .is-processing-id .ensures) ∙ c .before .if1 .taken) at (b .pre) in
     omega arith
 
 returns : tie.Need-returns
 returns c =
     let a = c .before .before in
     let i = a .before .before .before in
-    rw (sym (i .is-in-list .ensures) ∙ a .before .before .if1 .taken) (a .put .ensures)
+    rw (sym (i .is-processing-id .ensures) ∙ a .before .before .if1 .taken) (a .put .ensures)
 
 put-requires-2 : tie.Need-put-requires-2
 put-requires-2 c κs =
     let i = c .before .before .before in
     let b = i .before .before .before in
-    let h = rw (sym (i .is-in-list .ensures) ∙ c .before .before .if1 .left) at (b .pre) in
+    let h = rw (sym (i .is-processing-id .ensures) ∙ c .before .before .if1 .left) at (b .pre) in
     omega arith
 
 returns-2 : tie.Need-returns-2
 returns-2 c =
     let a = c .before .before in
     let i = a .before .before .before .before in
-    rw (sym (i .is-in-list .ensures) ∙ a .before .before .before .if1 .left) (a .put2 .ensures)
+    rw (sym (i .is-processing-id .ensures) ∙ a .before .before .before .if1 .left) (a .put2 .ensures)
 
 pub put-processing-spec : {M : Type 1} → statement M
 put-processing-spec =

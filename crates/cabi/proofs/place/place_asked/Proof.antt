@@ -3,7 +3,7 @@ use mathlib.Core.Path.{sym, ap, _∙_}
 use Rattle.text.specs.Bytes.{Text}
 use Rattle.reader.specs.Place.{Place}
 use Rattle.reader.specs.LookUp.{lookUp}
-use Rattle.cabi.specs.Told.{asked}
+use Rattle.numbers.specs.Told.{asked}
 use Rattle.cabi.proofs.Asked.{three, zeros-same}
 use borrow.Author.Needs.{needs}
 use Rattle.cabi.proofs.place.place_asked.Statement.{statement}

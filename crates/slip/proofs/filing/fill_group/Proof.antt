@@ -10,9 +10,9 @@ use Rattle.slip.proofs.filing.fill_group.Statement.{statement}
 use Rattle.slip.proofs.filing.fill_group.Tie as tie
 use Rattle.slip.proofs.filing.fill_group.Reads as reads
 use Rattle.slip.proofs.filing.fill_group.Lts as lts
-use Rattle.frame.proofs.occurrence.Reads as occurrence-reads
+use Rattle.reader.proofs.occurrence.Reads as occurrence-reads
 use Rattle.reader.proofs.text_in.Reads as text-in-reads
-use Rattle.slip.proofs.counting.observations.Reads as observations-reads
+use Rattle.reader.proofs.observations.Reads as observations-reads
 use Rattle.slot.proofs.fill.Reads as fill-reads
 use Rattle.text.proofs.marks_of.Reads as marks-of-reads
 

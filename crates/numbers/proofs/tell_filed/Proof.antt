@@ -1,7 +1,7 @@
 -- `tell_filed`: a refusal is told by its number.
 use borrow.Author.Needs.{needs}
-use Rattle.cabi.proofs.tell.tell_filed.Statement.{statement}
-use Rattle.cabi.proofs.tell.tell_filed.Tie as tie
+use Rattle.numbers.proofs.tell_filed.Statement.{statement}
+use Rattle.numbers.proofs.tell_filed.Tie as tie
 
 returns : tie.Need-returns
 returns c = rw (c .before .before .f .given .1) (c .number .ensures)

@@ -1,8 +1,8 @@
 -- `tell_value`: each case is told by its numbers.
 use mathlib.Core.Path.{refl}
 use borrow.Author.Needs.{needs}
-use Rattle.cabi.proofs.tell.tell_value.Statement.{statement}
-use Rattle.cabi.proofs.tell.tell_value.Tie as tie
+use Rattle.numbers.proofs.tell_value.Statement.{statement}
+use Rattle.numbers.proofs.tell_value.Tie as tie
 
 returns : tie.Need-returns
 returns c = rw (c .before .before .v .given .1) (record { returned = c .number .ensures; list = refl })

@@ -3,9 +3,9 @@ use borrow.Author.Needs.{needs}
 use Prim.Native.Nat.{_-_}
 use mathlib.Core.Logic.{⊎-elim}
 use lib.ListN.{length}
-use Rattle.slip.proofs.Groups.{Counting, counting-first, counting-stop, counting-more, counting-on, counting-all}
-use Rattle.slip.proofs.counting.observations.Statement.{statement}
-use Rattle.slip.proofs.counting.observations.Tie as tie
+use Rattle.groups.proofs.Counting.{Counting, counting-first, counting-stop, counting-more, counting-on, counting-all}
+use Rattle.groups.proofs.observations.Statement.{statement}
+use Rattle.groups.proofs.observations.Tie as tie
 
 abbrev Inv-loop : tie.InvT-loop
 Inv-loop m from count₀ start₀ end₀ count start end = Counting m from count start end

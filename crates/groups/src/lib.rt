@@ -1,9 +1,9 @@
-// Counting the observations of a group.
+// Groups: counting the observations of one.
 ghost use mathlib.Core.Path.{_≡_};
 ghost use Prim.Native.Nat.{_≤_};
 ghost use lib.ListN.{length, drop};
 ghost use Rattle.frame.specs.Segments.{segments};
-ghost use Rattle.slip.specs.Observations as Group;
+ghost use Rattle.groups.specs.Observations as Group;
 use frame::has_name;
 use parts::far_end;
 

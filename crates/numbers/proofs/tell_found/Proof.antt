@@ -1,8 +1,8 @@
 -- `tell_found`: each case of what is found is told by its numbers.
 use mathlib.Core.Path.{refl}
 use borrow.Author.Needs.{needs}
-use Rattle.cabi.proofs.tell.tell_found.Statement.{statement}
-use Rattle.cabi.proofs.tell.tell_found.Tie as tie
+use Rattle.numbers.proofs.tell_found.Statement.{statement}
+use Rattle.numbers.proofs.tell_found.Tie as tie
 
 returns : tie.Need-returns
 returns c = rw (c .before .before .f .given .1) (record { returned = c .number .ensures; list = refl })

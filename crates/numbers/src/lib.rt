@@ -5,7 +5,7 @@ ghost use Rattle.reader.specs.Fault.{fault};
 ghost use Rattle.reader.specs.Told.{placeOf, verdictOf, foundOf};
 ghost use Rattle.slip.specs.Told.{filedOf};
 ghost use Rattle.book.specs.Told.{valueOf};
-ghost use Rattle.cabi.specs.Told.{status, Tells, verdictNumbers, foundNumbers, sizeNumbers, partNumbers};
+ghost use Rattle.numbers.specs.Told.{status, Tells, verdictNumbers, foundNumbers, sizeNumbers, partNumbers};
 use book::Value;
 use reader::Fault;
 use reader::Found;
