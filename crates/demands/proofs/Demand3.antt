@@ -30,7 +30,7 @@ use Rattle.slip.proofs.Unique.{file-unique}
 use Rattle.demands.specs.Strike.{isListedPlace, strike}
 use Rattle.demands.specs.Fit.{fit, hasCopies}
 use Rattle.demands.specs.Demand3.{shown, lookUpShown, shownBy, handedShown, SameShown, Unmoved, Demand3}
-use Rattle.demands.proofs.Answers.{good′, checks-same, judge-same, look-same, reply-same, file-same}
+use Rattle.demands.proofs.SameAnswers.{good′, checks-same, judge-same, look-same, reply-same, file-same}
 use Rattle.demands.proofs.Striking.{not-empty}
 
 -- what a look-up hands back has the bytes that its answer names

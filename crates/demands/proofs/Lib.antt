@@ -1,4 +1,5 @@
 pub mod Contracts
+pub mod ByExample
 pub mod Judged
 pub mod Demand1
 pub mod Counts
@@ -9,7 +10,7 @@ pub mod Kept
 pub mod Seen
 pub mod Message
 pub mod Listed
-pub mod Answers
+pub mod SameAnswers
 pub mod Gone
 pub mod Separators
 pub mod Striking

@@ -1,12 +1,12 @@
 -- What striking does.
-use mathlib.Core.Path.{_≡_, refl, sym, ap, _∙_}
+use mathlib.Core.Path.{_≡_, refl, sym, _∙_}
 use mathlib.Core.Bool.{Bool, true, false, _&&_, _||_}
 use mathlib.Core.List.{List, [], _∷_, map}
 use lib.ListN.{take}
-use Rattle.text.specs.Bytes.{Text, empty, bytes, keep, same}
+use Rattle.text.specs.Bytes.{Text, empty, bytes, keep}
 use Rattle.text.specs.declared.marks.Marks.{Marks}
 use Rattle.text.specs.Marks.{marksOf}
-use Rattle.text.proofs.Tests.{not-true, same-true, same-self}
+use Rattle.text.proofs.Tests.{same-true}
 use Rattle.text.proofs.Lists.{all-kept, or-none}
 use Rattle.frame.specs.Segments.{segments, name, named, ofName, occurrence}
 use Rattle.frame.specs.Frame.{header, framed}
@@ -15,11 +15,9 @@ use Rattle.profile.specs.Table.{Table, isListed}
 use Rattle.profile.specs.Profile.{profile01}
 use Rattle.reader.specs.Place.{Place, textAt}
 use Rattle.reader.proofs.Patient.{header-listed}
-use Rattle.worked.specs.Worked.{AllHold, P5, P6}
-use Rattle.worked.proofs.Computing.{computing}
-use Rattle.worked.proofs.Examples.{failing, all-hold}
-use Rattle.demands.specs.Strike.{change, rewritten, hasLeaf, rowsAt, leavesAt, strikeSegment, strike}
-use Rattle.demands.specs.Striking.{inFirstNine, Striking, strikingExamples, NotEmpty}
+use Rattle.demands.specs.Strike.{hasLeaf, leavesAt, strikeSegment, strike}
+use Rattle.demands.specs.Striking.{inFirstNine, Striking, NotEmpty}
+use Rattle.demands.proofs.ByExample.{examples-hold, P5-changes, P6-changes}
 use Rattle.demands.proofs.Kept.{name-struck}
 use Rattle.demands.proofs.Message.{L, segments-struck, begins, struck-nine, marks-struck}
 use Rattle.demands.proofs.Listed.{found-named, occurrence-struck, listed-text}
@@ -71,23 +69,6 @@ striking T msh m good =
       listed = listed-text T m (marks T msh m good);
       unlisted = λ p e n. goes-by T msh m good p (isListed T (p .name)) refl e n;
     }
-
--- BY EXAMPLE
-examples-hold : AllHold strikingExamples
-unfolding computing failing strikingExamples change rewritten rowsAt leavesAt strikeSegment strike
-examples-hold = all-hold strikingExamples refl
-
--- texts that are tested unequal differ
-differs : (s t : Text) → same s t ≡ false → s ≡ t → ⊥
-differs s t e h = not-true (sym e ∙ ap (λ (u : Text). same u t) h ∙ same-self t)
-
-P5-changes : strike profile01 P5 ≡ P5 → ⊥
-unfolding computing change rewritten rowsAt leavesAt strikeSegment strike
-P5-changes = differs (strike profile01 P5) P5 refl
-
-P6-changes : strike profile01 P6 ≡ P6 → ⊥
-unfolding computing change rewritten rowsAt leavesAt strikeSegment strike
-P6-changes = differs (strike profile01 P6) P6 refl
 
 -- SO DEMAND 3 IS NOT EMPTY
 pub not-empty : NotEmpty

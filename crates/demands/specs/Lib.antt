@@ -1,3 +1,4 @@
+pub mod Contracts
 pub mod Demand1
 pub mod Idle
 pub mod Demand2
