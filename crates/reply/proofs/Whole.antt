@@ -3,9 +3,12 @@ use mathlib.Core.Path.{_≡_, refl, sym, ap, _∙_}
 use Prim.Native.Nat.{ℕ, _+_, _-_, _≤_, _<_}
 use native.Mathlib.Omega.{arith}
 use mathlib.Core.Bool.{Bool, true, false, not}
+use mathlib.Core.Logic.{⊎-elim}
 use mathlib.Core.List.{List, [], _∷_, _++_, append-assoc, append-nil}
 use lib.ListN.{length, length-append}
 use lib.Dec.{ltb}
+use types.Run.{OneOf}
+use denote.Enum.Declared.{tagOf}
 use borrow.Author.Tests.{lt-ltb, le-ltb, not-true, not-false}
 use Rattle.text.specs.Bytes.{Text, pick, bytes, cr, within}
 use Rattle.types.specs.Types.{isStamp, isReplyNumber}
@@ -21,6 +24,7 @@ use Rattle.text.proofs.Puts.{puts-length, puts-head, puts-both, puts-front-room
 use Rattle.parts.specs.Split.{led, join, closed}
 use Rattle.frame.specs.Frame.{frameTests, framed}
 use Rattle.profile.specs.Profile.{profile01}
+use Rattle.reader.proofs.Verdict as machine
 use Rattle.reader.specs.declared.Verdict as code-verdict
 use Rattle.reader.specs.declared.Verdict.the-variants as code
 use Rattle.reader.specs.Fault.{Verdict, accepted, fault, verdict, judge}
@@ -134,13 +138,21 @@ module _ (m stamp number before : Text) where
                 let g : own ≡ given t = passed ∙ rw (le-ltb (length before) (length t) (puts-front-room p)) in
                 record { answer = rw g (ap given (puts-front-ends p)); buffer = rw g (puts-front p) }
 
--- THE REPLY, by the verdict
+-- THE REPLY, by the verdict: a verdict that is no refusal is told where the frame is good
+given-one : (v : code-verdict.Verdict) → OneOf (1 ∷ 2 ∷ []) (tagOf machine.the-type v) → (w : Verdict) × (verdictOf v ≡ given w)
+given-one (code.Refused r) h = absurd (⊎-elim (λ e. omega arith) (λ e. omega arith) h)
+given-one code.Accepted h = (accepted, refl)
+given-one (code.Fault f) h = (fault (placeOf (f .place)) (f .reason), refl)
+
 module _ (m : Text) (v : code-verdict.Verdict) (judged : verdictOf v ≡ judge profile01 m) where
-  pub judged-good : (w : Verdict) → verdictOf v ≡ given w → (framed m ≡ true) × (verdictOf v ≡ given (verdict profile01 m))
-  unfolding judge
-  judged-good w e =
-      let f = given-passes (frameTests m) (verdict profile01 m) w (sym judged ∙ e) in
-      (f, judged ∙ first-given (frameTests m) (verdict profile01 m) f)
+  module _ (told : OneOf (1 ∷ 2 ∷ []) (tagOf machine.the-type v)) where
+    good : framed m ≡ true
+    unfolding judge
+    good = let g = given-one v told in given-passes (frameTests m) (verdict profile01 m) (g .0) (sym judged ∙ g .1)
+
+    pub judged-good : verdictOf v ≡ given (verdict profile01 m)
+    unfolding judge
+    judged-good = judged ∙ first-given (frameTests m) (verdict profile01 m) good
 
   module _ (stamp number before : Text) where
     pub replies-refused : (x : Refusal) → v ≡ code.Refused x → Replies profile01 m stamp number before (written.Refused x) before
@@ -152,9 +164,9 @@ module _ (m : Text) (v : code-verdict.Verdict) (judged : verdictOf v ≡ judge p
         let l = first-refused (frameTests m) (ownTests profile01 m stamp number (length before)) (replyText profile01 m stamp number) x g in
         record { answer = rw (← l); buffer = rw (← l) }
 
-    pub replies-given : (w : Verdict) → verdictOf v ≡ given w → {r : Written} {after : Text} → Acknowledges m stamp number before r after
+    pub replies-given : OneOf (1 ∷ 2 ∷ []) (tagOf machine.the-type v) → {r : Written} {after : Text} → Acknowledges m stamp number before r after
         → Replies profile01 m stamp number before r after
     unfolding spec.reply
-    replies-given w e {r} {after} a =
-        let l = first-passed (frameTests m) (ownTests profile01 m stamp number (length before)) (replyText profile01 m stamp number) (judged-good w e .0) in
+    replies-given told {r} {after} a =
+        let l = first-passed (frameTests m) (ownTests profile01 m stamp number (length before)) (replyText profile01 m stamp number) (good told) in
         record { answer = rw l (a .answer); buffer = rw l (a .buffer) }

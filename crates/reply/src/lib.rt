@@ -88,7 +88,6 @@ pub fn reply(m: &[u8], stamp: &[u8], number: &[u8], buffer: &mut [u8]) -> Writte
     let v = judge(m);
     match v {
         Verdict::Refused(r) => Written::Refused(r),
-        Verdict::Accepted => acknowledge(m, v, stamp, number, buffer),
-        Verdict::Fault(_) => acknowledge(m, v, stamp, number, buffer),
+        _ => acknowledge(m, v, stamp, number, buffer),
     }
 }

@@ -1,6 +1,4 @@
 -- `reply`: the frame's refusal, or the reply by the verdict.
-use mathlib.Core.Path.{ap}
-use Rattle.reader.specs.Told.{verdictOf}
 use Rattle.reply.proofs.Whole.{judged-good, replies-refused, replies-given}
 use borrow.Author.Needs.{needs}
 use Rattle.reply.proofs.reply.Statement.{statement}
@@ -8,15 +6,9 @@ use Rattle.reply.proofs.reply.Tie as tie
 
 acknowledge-requires : tie.Need-acknowledge-requires
 acknowledge-requires c κs =
-    let j = c .before .before .before in
+    let j = c .before .before in
     let a = j .before .before .before .before .before .args in
-    judged-good (a .m .now) (j .judge .result) (j .judge .ensures) _ (ap verdictOf (c .before .enum-told .given .1)) .1
-
-acknowledge-requires-2 : tie.Need-acknowledge-requires-2
-acknowledge-requires-2 c κs =
-    let j = c .before .before .before in
-    let a = j .before .before .before .before .before .args in
-    judged-good (a .m .now) (j .judge .result) (j .judge .ensures) _ (ap verdictOf (c .before .enum-told2 .given .1)) .1
+    judged-good (a .m .now) (j .judge .result) (j .judge .ensures) (c .before .match .keys2)
 
 returns : tie.Need-returns
 returns c =
@@ -28,32 +20,11 @@ returns-2 : tie.Need-returns-2
 returns-2 c =
     let k = c .before .before in
     let e = k .before .before in
-    let j = e .before .before in
+    let j = e .before in
     let a = j .before .before .before .before .before .args in
-    replies-given (a .m .now) (j .judge .result) (j .judge .ensures) (a .stamp .now) (a .number .now) (a .buffer .now) _
-    (ap verdictOf (e .enum-told .given .1)) (k .acknowledge .ensures)
-
-returns-3 : tie.Need-returns-3
-returns-3 c =
-    let k = c .before .before in
-    let e = k .before .before in
-    let j = e .before .before in
-    let a = j .before .before .before .before .before .args in
-    replies-given (a .m .now) (j .judge .result) (j .judge .ensures) (a .stamp .now) (a .number .now) (a .buffer .now) _
-    (ap verdictOf (e .enum-told2 .given .1)) (k .acknowledge2 .ensures)
+    replies-given (a .m .now) (j .judge .result) (j .judge .ensures) (a .stamp .now) (a .number .now) (a .buffer .now) (e .match .keys2) (k .acknowledge .ensures)
 
 pub reply-spec : {M : Type 1} → statement M
 reply-spec =
     tie.close
-    (tie.spec
-    (λ c κs. search needs)
-    (λ c. search needs)
-    (λ c. search needs)
-    acknowledge-requires
-    (λ c. search needs)
-    acknowledge-requires-2
-    returns
-    (λ c. search needs)
-    returns-2
-    (λ c. search needs)
-    returns-3)
+    (tie.spec (λ c κs. search needs) (λ c. search needs) acknowledge-requires returns (λ c. search needs) returns-2)
