@@ -6,8 +6,8 @@ use Rattle.text.specs.Bytes.{Text}
 use Rattle.reader.specs.declared.Place.{Place}
 use Rattle.reader.specs.declared.search.LookedUp.{LookedUp}
 use Rattle.reader.specs.Promise.{LooksUp}
-use Rattle.slip.specs.declared.reading.SlipValue.{SlipValue}
-use Rattle.slip.specs.Promise.{ReadsSlip}
+use Rattle.book.specs.declared.reading.SlipValue.{SlipValue}
+use Rattle.book.specs.Promise.{ReadsSlip}
 
 abbrev pub lookUpPromise : RefT Text → Place → LookedUp → Type 0
 lookUpPromise m p r = LooksUp m p r
