@@ -90,11 +90,11 @@ slip-answers : (s : Text) (base tag : ℕ) → isSlip s ≡ true → answered (v
 unfolding first
 slip-answers s base tag e = rw e
 
-count-there : (tag k : ℕ) (t : Text) → tag ≡ 6 → valueFrom [] tag k t ≡ some (part (k + 3) (k + 5))
+count-there : (tag base at : ℕ) (t : Text) → tag ≡ 6 → valueFrom [] tag (base + at) t ≡ some (part (base + at + 3) (base + (at + 5)))
 unfolding valueFrom
-count-there tag k t e =
-    let h : k + 3 + 2 ≡ k + 5 = omega arith in
-    rw (eq-eqb tag 6 e) (ap (λ (j : ℕ). some (part (k + 3) j)) h)
+count-there tag base at t e =
+    let h : base + at + 3 + 2 ≡ base + (at + 5) = omega arith in
+    rw (eq-eqb tag 6 e) (ap (λ (j : ℕ). some (part (base + at + 3) j)) h)
 
 no-other : (tag k : ℕ) (t : Text) → (tag ≡ 6 → ⊥) → valueFrom [] tag k t ≡ none
 unfolding valueFrom
@@ -169,10 +169,10 @@ module _ (s : Text) (base tag : ℕ) (found : Value) (at k : ℕ) (c : ReadTo s 
       told : answered (valueFrom expected tag base s) ≡ readIn s base tag
       told = slip-answers s base tag (is-slip ∙ not-false b slip)
 
-      counted : tag ≡ 6 → valueFrom expected tag base s ≡ some (part (base + at + 3) (base + at + 5))
-      counted e = seen-count tag k _ _ found (omega (arith, c)) (c .seen) ∙ rw none-left (count-there tag (base + at) (drop at s) e)
+      counted : tag ≡ 6 → valueFrom expected tag base s ≡ some (part (base + at + 3) (base + (at + 5)))
+      counted e = seen-count tag k _ _ found (omega (arith, c)) (c .seen) ∙ rw none-left (count-there tag base at (drop at s) e)
 
-      pub read-count : tag ≡ 6 → given (part (base + at + 3) (base + at + 5)) ≡ readIn s base tag
+      pub read-count : tag ≡ 6 → given (part (base + at + 3) (base + (at + 5))) ≡ readIn s base tag
       unfolding first
       read-count e = ap answered (sym (counted e)) ∙ told
 

@@ -6,6 +6,7 @@ ghost use lib.ListN.{length, drop};
 ghost use Rattle.text.specs.Bytes.{every, printable};
 ghost use Rattle.reader.specs.Part.{VeryPart};
 ghost use Rattle.slip.specs.Slot.{slotSize};
+ghost use Rattle.book.specs.declared.Value.the-variants.{Part};
 ghost use Rattle.book.specs.Read.{mostOf, isZero, isSlipFrom, readSlip};
 ghost use Rattle.book.specs.Told.{valueOf, startOf, endOf};
 ghost use Rattle.book.specs.Inner.{ReadsField, readIn, Inside};
@@ -95,6 +96,17 @@ fn ends_well(s: &[u8], at: usize) -> bool
     (s[at] == 6) & (size == 2) & (count <= 509) & all_zero(&s[at + 5..])
 }
 
+// The value of the field from `at` up to `end` of a slip that begins at `base` of the book: what stands behind its tag and its length.
+fn value_in(base: usize, at: usize, end: usize) -> Value
+    requires { ⌜ (base + at + 3 ≤ 18446744073709551615) × (base + end ≤ 18446744073709551615) ⌝ }
+    ensures { λ r. ⌜ r ≡ Part (base + at + 3) (base + end) ⌝ }
+{
+    Value::Part {
+        start: base + at + 3,
+        end: base + end,
+    }
+}
+
 // BAD SLIP, NO TAG, or where the tag's value lies in the book: the slip s begins at `base` of the book.
 fn read_in(s: &[u8], base: usize, tag: u64) -> Value
     requires { ⌜ (length (now s) ≡ slotSize) × (base + slotSize ≤ 18446744073709551615) ⌝ }
@@ -108,10 +120,7 @@ fn read_in(s: &[u8], base: usize, tag: u64) -> Value
             return Value::Refused(Refusal::BadSlip);
         };
         if (tag == k as u64) & (at < end) {
-            found = Value::Part {
-                start: base + at + 3,
-                end: base + end,
-            };
+            found = value_in(base, at, end);
         }
         at = end;
         k += 1;
@@ -120,10 +129,7 @@ fn read_in(s: &[u8], base: usize, tag: u64) -> Value
         return Value::Refused(Refusal::BadSlip);
     }
     if tag == 6 {
-        return Value::Part {
-            start: base + at + 3,
-            end: base + at + 5,
-        };
+        return value_in(base, at, at + 5);
     }
     found
 }

@@ -1,9 +1,11 @@
 -- `read_in`: the fields one after another; whether it is a slip, and the tag's value, are told from the field that comes next.
 use Prim.Native.Nat.{_-_}
+use mathlib.Core.Path.{ap, _∙_}
 use mathlib.Core.Logic.{⊎-elim}
 use native.Mathlib.Omega.{arith}
 use Rattle.book.proofs.SlipField.{field-as}
 use Rattle.book.proofs.ReadSlip.{ReadTo, read-none, read-bad, read-here, read-past, read-no-slip, read-count, read-found}
+use Rattle.book.specs.Told.{valueOf}
 use borrow.Author.Needs.{needs}
 use Rattle.book.proofs.reading.read_in.Statement.{statement}
 use Rattle.book.proofs.reading.read_in.Tie as tie
@@ -29,14 +31,14 @@ returns c =
     read-bad (start .s .now) (start .base) (start .tag) (loop .found) (loop .at) (loop .k) (loop .inv) (inside .loop-test .taken)
     (field-as (start .s .now) (loop .at) (loop .k) (read .result) _ (c .enum-told .given .1) (read .ensures))
 
-add-t17 : tie.Need-add-t17 Inv-loop μ-loop
-add-t17 c =
+value-in-requires : tie.Need-value-in-requires Inv-loop μ-loop
+value-in-requires c κs =
     let inside = c .before .before .before .before .before in
     let loop = inside .before .loop in
     let start = inside .before .before .before in
     let read = c .before .before .before .before .read-field in
     let w = field-as (start .args .s .now) (loop .at) (loop .k) (read .result) _ (c .before .before .end .given .1) (read .ensures) in
-    omega (arith, loop .inv .near, inside .loop-test .taken, start .pre)
+    (omega (arith, loop .inv .near, inside .loop-test .taken, start .pre), omega (arith, loop .inv .near, inside .loop-test .taken, start .pre))
 
 loop-again : tie.Need-loop-again Inv-loop μ-loop
 loop-again c =
@@ -46,7 +48,7 @@ loop-again c =
     let read = c .before .before .before .before .read-field in
     let w = field-as (start .s .now) (loop .at) (loop .k) (read .result) _ (c .before .before .end .given .1) (read .ensures) in
     ⊎-elim
-    (λ z. rw (z .1) (read-here (start .s .now) (start .base) (start .tag) (loop .found) (loop .at) (loop .k) (loop .inv) (inside .loop-test .taken) _ w (z .0 .taken)))
+    (λ z. rw (z .2, z .1 .ensures) (read-here (start .s .now) (start .base) (start .tag) (loop .found) (loop .at) (loop .k) (loop .inv) (inside .loop-test .taken) _ w (z .0 .taken)))
     (λ z. rw (z .1) (read-past (start .s .now) (start .base) (start .tag) (loop .found) (loop .at) (loop .k) (loop .inv) (inside .loop-test .taken) _ w (z .0 .left)))
     (c .if1 .came)
 
@@ -61,12 +63,14 @@ returns-2 c =
 
 returns-3 : tie.Need-returns-3 Inv-loop μ-loop
 returns-3 c =
-    let out = c .before .before .before in
+    let six = c .before in
+    let out = six .before .before .before in
     let loop = out .before .loop in
     let start = out .before .before .before .args in
-    let ends = c .before .before .ends-well in
-    read-count (start .s .now) (start .base) (start .tag) (loop .found) (loop .at) (loop .k) (loop .inv) (out .loop-test .left)
-    (ends .result) (ends .ensures) (c .before .if2 .left) (c .if3 .taken)
+    let ends = six .before .before .ends-well in
+    ap valueOf (c .value-in2 .ensures)
+    ∙ read-count (start .s .now) (start .base) (start .tag) (loop .found) (loop .at) (loop .k) (loop .inv) (out .loop-test .left)
+    (ends .result) (ends .ensures) (six .before .if2 .left) (six .if3 .taken)
 
 returns-4 : tie.Need-returns-4 Inv-loop μ-loop
 returns-4 c =
@@ -89,17 +93,13 @@ read-in-spec =
     (λ c. search needs)
     returns
     (λ c. search needs)
-    (λ c. search needs)
-    (λ c. search needs)
-    add-t17
+    value-in-requires
     (λ c. search needs)
     (λ c. search needs)
     loop-again
     (λ c κs. search needs)
     returns-2
     (λ c. search needs)
-    (λ c. search needs)
-    (λ c. search needs)
-    (λ c. search needs)
+    (λ c κs. search needs)
     returns-3
     returns-4)
