@@ -1,25 +1,13 @@
 // Calls as lines on standard input, and for each its answer as a line: docs/CALLS.md has their form. What the entries answer can so be
 // compared with what another program answers.
-mod answers;
-mod asking;
 mod calls;
-mod numbers;
-mod spelling;
 mod window;
-mod words;
 
 use window::Window;
 use window::turn;
 
 // A proved loop has to end, and nothing says that the input does: so it counts its turns down, from a number that no run uses up.
-fn run(
-    window: &mut [u8],
-    first: &mut [u8],
-    second: &mut [u8],
-    third: &mut [u8],
-    fourth: &mut [u8],
-    out: &mut [u8],
-) {
+fn run(window: &mut [u8], out: &mut [u8]) {
     let mut w = Window {
         from: 0,
         seen: 0,
@@ -29,7 +17,7 @@ fn run(
     };
     let mut turns = u64::MAX;
     while turns > 0 {
-        w = turn(window, w, first, second, third, fourth, out);
+        w = turn(window, w, out);
         if !w.is_open {
             return;
         }
@@ -38,33 +26,14 @@ fn run(
 }
 
 // The arrays as slices. Lent as arrays first, their lengths are told by their types; a million bytes are too many for the prover to count.
-fn run_in(
-    window: &mut [u8; 1048577],
-    first: &mut [u8; 131072],
-    second: &mut [u8; 131072],
-    third: &mut [u8; 131072],
-    fourth: &mut [u8; 131072],
-    out: &mut [u8; 393344],
-) {
-    run(window, first, second, third, fourth, out);
+fn run_in(window: &mut [u8; 1048577], out: &mut [u8; 393344]) {
+    run(window, out);
 }
 
 fn main() {
     // the longest line and its line feed
     let mut window = [0u8; 1048577];
-    // no call has more than four strings
-    let mut first = [0u8; 131072];
-    let mut second = [0u8; 131072];
-    let mut third = [0u8; 131072];
-    let mut fourth = [0u8; 131072];
     // three bytes for each of the longest string, and the words before it
     let mut out = [0u8; 393344];
-    run_in(
-        &mut window,
-        &mut first,
-        &mut second,
-        &mut third,
-        &mut fourth,
-        &mut out,
-    );
+    run_in(&mut window, &mut out);
 }

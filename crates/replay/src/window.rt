@@ -2,11 +2,11 @@
 ghost use Prim.Native.Nat.{_+_, _≤_};
 ghost use lib.ListN.{length};
 ghost use Rattle.replay.specs.Inside.{Inside};
-use crate::answers::tell_no_call;
 use crate::calls::answer;
-use crate::words::seek;
 use libc::STDIN_FILENO;
 use libc::STDOUT_FILENO;
+use telling::tell_no_call;
+use words::seek;
 
 // The bytes from `from` up to `to` are read and not answered yet; up to `seen` they have no line feed.
 pub struct Window {
@@ -27,20 +27,12 @@ fn say(out: &[u8], n: usize) -> bool {
 }
 
 // Answers a line, and tells whether the answer was taken. Of a line that is too long only its end is here.
-fn answer_line(
-    l: &[u8],
-    is_long: bool,
-    first: &mut [u8],
-    second: &mut [u8],
-    third: &mut [u8],
-    fourth: &mut [u8],
-    out: &mut [u8],
-) -> bool {
+fn answer_line(l: &[u8], is_long: bool, out: &mut [u8]) -> bool {
     if is_long {
         let n = tell_no_call(out);
         return say(out, n);
     }
-    let n = answer(l, first, second, third, fourth, out);
+    let n = answer(l, out);
     say(out, n)
 }
 
@@ -99,15 +91,7 @@ fn refill(window: &mut [u8], w: Window) -> Window
 
 // One turn: a line is answered, or more is read. At the input's end a line without its line feed is answered too.
 // Inner: the program begins with a window that lies in its memory, and each turn keeps it there.
-pub fn turn(
-    window: &mut [u8],
-    w: Window,
-    first: &mut [u8],
-    second: &mut [u8],
-    third: &mut [u8],
-    fourth: &mut [u8],
-    out: &mut [u8],
-) -> Window
+pub fn turn(window: &mut [u8], w: Window, out: &mut [u8]) -> Window
     requires { ⌜ Inside w (length (now window)) ⌝ }
     ensures { λ r. ⌜ Inside r (length (now (window .exit))) ⌝ }
 {
@@ -116,7 +100,7 @@ pub fn turn(
     let end = seek(&window[0..to], w.seen, b'\n');
     if end < to {
         let l = &window[from..end];
-        let is_open = answer_line(l, w.is_long, first, second, third, fourth, out);
+        let is_open = answer_line(l, w.is_long, out);
         return Window {
             from: end + 1,
             seen: end + 1,
@@ -129,7 +113,7 @@ pub fn turn(
     let last = v.to;
     if !v.is_open & ((0 < last) | v.is_long) {
         let l = &window[0..last];
-        answer_line(l, v.is_long, first, second, third, fourth, out);
+        answer_line(l, v.is_long, out);
     }
     v
 }

@@ -7,11 +7,10 @@ use Rattle.replay.proofs.run.Statement.{statement}
 use Rattle.replay.proofs.run.Tie as tie
 
 abbrev Inv-loop : tie.InvT-loop
-Inv-loop window₀ first₀ second₀ third₀ fourth₀ out₀ w₀ turns₀ window first second third fourth out w turns =
-    Inside w (length window) × ((length window ≡ length window₀) × ((length first ≡ length first₀) × ((length second ≡ length second₀) × ((length third ≡ length third₀) × ((length fourth ≡ length fourth₀) × (length out ≡ length out₀))))))
+Inv-loop window₀ out₀ w₀ turns₀ window out w turns = Inside w (length window) × ((length window ≡ length window₀) × (length out ≡ length out₀))
 
 abbrev μ-loop : tie.MeasureT-loop
-μ-loop window₀ first₀ second₀ third₀ fourth₀ out₀ w₀ turns₀ window first second third fourth out w turns = turns
+μ-loop window₀ out₀ w₀ turns₀ window out w turns = turns
 
 pub run-spec : {M : Type 1} → statement M
 run-spec =
@@ -21,14 +20,6 @@ run-spec =
     μ-loop
     (λ c. search needs)
     (λ c κs. search needs)
-    (λ c. search needs)
-    (λ c. search needs)
-    (λ c. search needs)
-    (λ c. search needs)
-    (λ c. search needs)
-    (λ c. search needs)
-    (λ c. search needs)
-    (λ c. search needs)
     (λ c. search needs)
     (λ c. search needs)
     (λ c. search needs)
