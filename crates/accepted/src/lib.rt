@@ -1,1 +1,1 @@
-// Laws of messages that are accepted: no code.
+// Laws of accepted messages and of faults: no code.

@@ -226,5 +226,5 @@ ask-read-spec 𝓤 H 𝓜 𝓖 𝓡 =
     entered 𝓤 H (tripleOf 𝓤 H (𝓖 .A) ask.signature (ask.spec 𝓤 H (𝓖 .A) (𝓜 .mem) (𝓡 .run)))
     (tables 𝓤 H 𝓜 𝓡 code.env .C) (tables 𝓤 H 𝓜 𝓡 code.env .Λ) #ask code.function (code.unfolded 𝓤 H 𝓜 𝓡)
     (ask-meets 𝓤 H (𝓖 .A) (givenOf 𝓤 H 𝓜 𝓖) (𝓜 .mem) (𝓡 .run) (tablesOf 𝓤 H 𝓜 (tables 𝓤 H 𝓜 𝓡 code.env))
-    (cited 𝓤 H (ReadSlip 𝓤 H (𝓖 .A) (𝓜 .mem) (𝓡 .run)) 𝓜 𝓡 code.env #read-slip read-slip-def.routine code.calls-slip·read-slip (read-slip-thm.met 𝓤 H 𝓜 𝓖 𝓡))
+    (cited 𝓤 H (ReadSlip 𝓤 H (𝓖 .A) (𝓜 .mem) (𝓡 .run)) 𝓜 𝓡 code.env #read-slip read-slip-def.routine code.calls-book·read-slip (read-slip-thm.met 𝓤 H 𝓜 𝓖 𝓡))
     (cited 𝓤 H (Tell 𝓤 H (𝓖 .A) (𝓜 .mem) (𝓡 .run)) 𝓜 𝓡 code.env #tell tell-def.routine code.calls-telling·tell-value (tell-thm.met 𝓤 H 𝓜 𝓖 𝓡)))
