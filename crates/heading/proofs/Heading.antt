@@ -2,16 +2,17 @@
 use mathlib.Core.Path.{_≡_, refl, sym, ap, _∙_}
 use Prim.Native.Nat.{ℕ, _+_}
 use native.Mathlib.Omega.{arith}
-use mathlib.Core.Bool.{true, false, _&&_, _||_}
+use mathlib.Core.Bool.{Bool, true, false, _&&_, _||_}
 use mathlib.Core.List.{List, [], _∷_, _++_, append-assoc, append-nil}
 use lib.ListN.{length, length-append}
 use lib.Dec.{ltb}
 use borrow.Author.Tests.{lt-ltb}
-use Rattle.text.specs.Bytes.{Text, pick, bytes, byte, cr, empty}
+use Rattle.text.specs.Bytes.{Text, pick, bytes, byte, cr, empty, isOne}
 use Rattle.text.specs.declared.marks.Marks.{Marks}
 use Rattle.text.specs.Marks.{usual, marksOf}
 use Rattle.parts.specs.Split.{led, join}
 use Rattle.reader.specs.declared.standing.Standing.{Standing}
+use Rattle.profile.specs.Lists.{processing-ids}
 use Rattle.reader.specs.Place.{leafAt}
 use Rattle.reader.specs.Copied.{segmentText}
 use Rattle.reader.proofs.Copied.{copied-text}
@@ -77,6 +78,14 @@ module _ (m : Text) (s : Standing) (h : IsHeader m s) where
     unfolding copiedHD
     hd-copied f x y z a b c i o j u l v =
         copies m f a b c (rw (or-empty-copied f 1 20 x a i o, or-empty-copied f 2 199 y b j u, or-empty-copied f 3 20 z c l v))
+
+-- THE PROCESSING ID, by whether it is in its list
+module _ (t : Text) {b : Bool} (told : b ≡ isOne t processing-ids) where
+  pub processing-listed : b ≡ true → processing t ≡ t
+  processing-listed e = rw (← told, e)
+
+  pub processing-other : b ≡ false → processing t ≡ bytes "P"
+  processing-other e = rw (← told, e)
 
 -- the header's texts, one behind another: z stands between the fields
 spread : (z h a b c d s k n p v e : Text)
