@@ -12,7 +12,7 @@ use borrow.Author.Tests.{ltb-true, ltb-false}
 use Rattle.text.specs.Bytes.{Text, within}
 use Rattle.text.specs.Answer.{Answer, refused, given, test, first, tell}
 use Rattle.text.specs.declared.refusal.Refusal.the-variants.{NoSlot, BadSlip, NoTag}
-use Rattle.reader.proofs.Leaf.{within-behind}
+use Rattle.reader.proofs.Lying.{within-behind}
 use Rattle.slip.specs.Slot.{slotSize}
 use Rattle.slip.specs.Book.{bookAfter}
 use Rattle.book.specs.Read.{isSlip, expected, Part, valueFrom, isNone, orNothing, slot, readSlip}

@@ -1,4 +1,5 @@
 pub mod Place
+pub mod Shown
 pub mod View
 pub mod Fault
 pub mod Cases

@@ -23,7 +23,8 @@ use Rattle.reader.proofs.Seek.{standing-missing, standing-inside, stand
 use Rattle.reader.specs.declared.Found as code-found
 use Rattle.checks.specs.Place.{place, leafAt, leafStart, textAt}
 use Rattle.reader.specs.LookUp.{Found, shown}
-use Rattle.reader.specs.Inner.{leafFound, Inside}
+use Rattle.seek.specs.Inner.{leafFound}
+use Rattle.reader.specs.Inner.{Inside}
 use Rattle.reader.specs.Part.{startOf, endOf}
 use Rattle.reader.specs.Told.{foundOf}
 use Rattle.reader.specs.Copied.{Stood, segmentText}

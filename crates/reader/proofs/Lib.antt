@@ -1,3 +1,4 @@
+pub use Rattle.seek.proofs.Lying
 pub use Rattle.checks.proofs.Stands
 pub use Rattle.checks.proofs.Filled
 pub use Rattle.accepted.proofs.EachCheck
@@ -8,7 +9,6 @@ pub use Rattle.accepted.proofs.Plain
 pub use Rattle.accepted.proofs.Patient
 pub mod Seek
 pub mod LookUp
-pub mod Leaf
 pub mod Part
 pub mod Halted
 pub mod Headed

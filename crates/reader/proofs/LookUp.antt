@@ -30,7 +30,7 @@ use Rattle.reader.proofs.Seek.{standing-missing, standing-enough, stand
 use Rattle.reader.specs.declared.Place as code
 use Rattle.reader.specs.declared.Found as code-found
 use Rattle.reader.specs.LookUp.{Found, Text-from-to, shown, found, tooFew, lookUpTests, lookUp}
-use Rattle.reader.specs.Inner.{leafFound}
+use Rattle.seek.specs.Inner.{leafFound}
 use Rattle.reader.specs.Told.{placeOf, foundOf}
 use Rattle.reader.specs.Inner.{Inside}
 use Rattle.reader.specs.Part.{VeryPart, startOf, endOf}

@@ -8,15 +8,8 @@ use Rattle.text.specs.Answer.{Answer, Test, test, first}
 use Rattle.text.specs.declared.refusal.Refusal.the-variants.{BadPlace, NoSegment}
 use Rattle.frame.specs.Frame.{frameTests}
 use Rattle.frame.specs.Segments.{fewer}
+pub use Rattle.checks.specs.Shown.{Found, Empty, Text-from-to, shown}
 use Rattle.checks.specs.Place.{Place, isPlace, textAt, startAt}
-
-pub data Found : Type 0 where
-  Empty : Found
-  Text-from-to : ℕ → ℕ → Found
-
--- a text that starts at k: absent and zero-length are both Empty
-abbrev pub shown : ℕ → Text → Found
-shown k t = pick (empty t) Empty (Text-from-to k (k + length t))
 
 abbrev pub found : Text → Place → Found
 found m p = shown (startAt m p) (textAt m p)

@@ -1,6 +1,5 @@
 // Places, look-up and judging.
 mod judging;
-mod leaves;
 mod places;
 mod search;
 mod standing;

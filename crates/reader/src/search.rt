@@ -3,24 +3,36 @@ ghost use mathlib.Core.Path.{_≡_};
 ghost use mathlib.Core.List.{[], _∷_};
 ghost use Prim.Native.Nat.{_≤_};
 ghost use lib.ListN.{length};
-ghost use Rattle.text.specs.Answer.{test, first};
+ghost use Rattle.text.specs.Answer.{test, first, given};
 ghost use Rattle.text.specs.declared.refusal.Refusal.the-variants.{NoSegment};
 ghost use Rattle.reader.specs.LookUp.{tooFew, found, lookUp};
 ghost use Rattle.reader.specs.Told.{placeOf, foundOf};
 ghost use Rattle.reader.specs.Promise.{LooksUp};
 ghost use Rattle.reader.specs.Inner.{Inside};
+ghost use Rattle.seek.specs.Inner.{leafTold};
 ghost use Rattle.reader.specs.Part.{VeryPart, startOf, endOf};
 use crate::Found;
 use crate::Place;
-use crate::leaves::leaf;
 use crate::places::is_place;
 use crate::standing::Standing;
 use crate::standing::occurrence;
 use frame::Framing;
 use frame::check;
 use parts::Numbers;
+use seek::Seen;
+use seek::leaf;
 use text::Refusal;
 use text::marks_of;
+
+// What is seen of a leaf, as a look-up's answer.
+pub fn shown(l: Seen) -> Found
+    ensures { λ r. ⌜ foundOf r ≡ given (leafTold l) ⌝ }
+{
+    match l {
+        Seen::Empty => Found::Empty,
+        Seen::Text { start, end } => Found::Text { start, end },
+    }
+}
 
 // NO SEGMENT, or what stands at the place.
 fn find_leaf(m: &[u8], p: Place) -> Found
@@ -35,7 +47,7 @@ fn find_leaf(m: &[u8], p: Place) -> Found
     };
     match occurrence(m, p.first, p.second, p.third, p.occurrence) {
         Standing::Missing => Found::Refused(Refusal::NoSegment),
-        Standing::Segment { start, end } => leaf(m, start, end, marks_of(m), n),
+        Standing::Segment { start, end } => shown(leaf(m, start, end, marks_of(m), n)),
     }
 }
 

@@ -6,11 +6,12 @@ ghost use Rattle.text.specs.Marks.{marksOf};
 ghost use Rattle.profile.specs.Lists.{processing-ids};
 ghost use Rattle.checks.specs.Place.{leafAt};
 ghost use Rattle.reader.specs.Copied.{Stood, segmentText};
-use crate::leaves::leaf;
+use crate::search::shown;
 use crate::search::text_of;
 use crate::standing::Standing;
 use parts::Numbers;
 use profile::is_in_list;
+use seek::leaf;
 use text::marks_of;
 
 // The first leaf of a component, in the first repetition of a field: no bytes where it is Empty or the segment is missing.
@@ -28,7 +29,7 @@ pub fn text_in<'a>(m: &'a [u8], s: Standing, field: u64, component: u64) -> &'a 
                 component,
                 subcomponent: 1,
             };
-            text_of(m, leaf(m, start, end, marks_of(m), n))
+            text_of(m, shown(leaf(m, start, end, marks_of(m), n)))
         }
     }
 }

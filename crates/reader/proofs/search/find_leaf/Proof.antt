@@ -1,5 +1,6 @@
 -- `find_leaf`: the occurrence, then the leaf in it.
-use mathlib.Core.Path.{sym}
+use mathlib.Core.Path.{sym, ap, _∙_}
+use Rattle.text.specs.Answer.{given}
 use Rattle.reader.specs.Told.{foundOf}
 use Rattle.reader.proofs.LookUp.{looked-missing, looked-leaf, looked-inside}
 use borrow.Author.Needs.{needs}
@@ -22,11 +23,12 @@ returns c =
 
 returns-2 : tie.Need-returns-2
 returns-2 c =
-    let k = c .before .before .before in
+    let l = c .before in
+    let k = l .before .before .before in
     let o = k .before .before in
     let b = o .before .before in
-    looked-leaf (b .args .m .now) (b .args .p) (o .occurrence .result) _ _ (c .before .marks-of .result) (foundOf (c .leaf .result))
-    (o .occurrence .ensures) (sym (k .start .given .1)) (c .before .marks-of .ensures) (c .leaf .ensures)
+    looked-leaf (b .args .m .now) (b .args .p) (o .occurrence .result) _ _ (l .before .marks-of .result) (foundOf (c .shown .result))
+    (o .occurrence .ensures) (sym (k .start .given .1)) (l .before .marks-of .ensures) (c .shown .ensures ∙ ap given (l .leaf .ensures))
 
 pub find-leaf-spec : {M : Type 1} → statement M
 find-leaf-spec =
@@ -37,5 +39,6 @@ find-leaf-spec =
     (λ c. search needs)
     (λ c κs. search needs)
     leaf-requires
+    (λ c κs. search needs)
     returns
     returns-2)

@@ -1,5 +1,6 @@
 -- `text_in`: the leaf of the segment, or no bytes where it is missing.
-use mathlib.Core.Path.{refl}
+use mathlib.Core.Path.{refl, ap, _∙_}
+use Rattle.text.specs.Answer.{given}
 use Rattle.reader.proofs.Copied.{stood-inside, taken-inside, taken-leaf, taken-none}
 use borrow.Author.Needs.{needs}
 use Rattle.reader.proofs.texts.text_in.Statement.{statement}
@@ -14,9 +15,10 @@ leaf-requires c κs =
 
 text-of-requires : tie.Need-text-of-requires
 text-of-requires c κs =
-    let k = c .before .before .before in
+    let l = c .before in
+    let k = l .before .before .before in
     let b = k .before .before .before in
-    taken-inside (b .args .m .now) (b .args .s) _ _ (k .s .given .1) (b .pre .0) _ _ _ (c .leaf .result) (c .leaf .ensures)
+    taken-inside (b .args .m .now) (b .args .s) _ _ (k .s .given .1) (b .pre .0) _ _ _ (c .shown .result) (c .shown .ensures ∙ ap given (l .leaf .ensures))
 
 returns : tie.Need-returns
 returns c =
@@ -26,9 +28,10 @@ returns c =
 returns-2 : tie.Need-returns-2
 returns-2 c =
     let f = c .before in
-    let k = f .before .before .before in
+    let l = f .before in
+    let k = l .before .before .before in
     let b = k .before .before .before in
-    taken-leaf (b .args .m .now) (b .args .s) _ _ (k .s .given .1) (b .pre .0) _ _ _ (f .leaf .result) _ (f .before .marks-of .ensures) (f .leaf .ensures)
+    taken-leaf (b .args .m .now) (b .args .s) _ _ (k .s .given .1) (b .pre .0) _ _ _ (f .shown .result) _ (l .before .marks-of .ensures) (f .shown .ensures ∙ ap given (l .leaf .ensures))
     (c .text-of .ensures .bytes)
 
 pub text-in-spec : {M : Type 1} → statement M
@@ -42,6 +45,7 @@ text-in-spec =
     (λ c. search needs)
     (λ c κs. search needs)
     leaf-requires
+    (λ c κs. search needs)
     text-of-requires
     returns
     returns-2)

@@ -11,7 +11,6 @@ use lib.Dec.{eqb, leb}
 use borrow.Author.Tests as tests
 use borrow.Author.Tests.{lt-leb, le-leb, eqb-true}
 use Rattle.text.specs.Bytes.{Text, pick, within}
-use Rattle.text.specs.Answer.{Answer, given}
 use Rattle.text.specs.declared.marks.Marks.{Marks}
 use Rattle.text.proofs.Tests.{not-true}
 use Rattle.parts.specs.declared.Span.{Span}
@@ -22,8 +21,8 @@ use Rattle.parts.specs.Span.{span, stepsFrom}
 use Rattle.parts.proofs.Descent.{within-length, reached, part-nil}
 use Rattle.frame.specs.Segments.{isHeader, field, fieldStart}
 use Rattle.checks.specs.Place.{leafAt, leafStart}
-use Rattle.reader.specs.LookUp.{Found, Empty, Text-from-to, shown}
-use Rattle.reader.specs.Inner.{leafFound, leafBehind}
+use Rattle.checks.specs.Shown.{Found, Empty, Text-from-to, shown}
+use Rattle.seek.specs.Inner.{leafFound, leafBehind}
 
 -- what is shown of a text: by its start and its length
 pub shown-none : (k : ℕ) (t : Text) → length t ≡ 0 → Empty ≡ shown k t
@@ -71,7 +70,7 @@ module _ (m : Text) (start end skip : ℕ) (l : start ≤ end) (h : end ≤ leng
 
 -- THE LEAF of a segment that is no header
 module _ (q : Marks) (n : Numbers) (k : ℕ) (s : Text) where
-  pub leaf-fields : (a : Answer Found) → isHeader s ≡ false → a ≡ given (leafBehind q n k 4 s) → a ≡ given (leafFound q n k s)
+  pub leaf-fields : (a : Found) → isHeader s ≡ false → a ≡ leafBehind q n k 4 s → a ≡ leafFound q n k s
   unfolding leafAt leafStart field fieldStart part partStart stepsFrom
   leaf-fields f e g =
       let t = drop 4 s in
@@ -97,10 +96,10 @@ third q (suc (suc (suc i))) r c b k s e l =
     let y : leb (suc (suc (suc i))) 2 ≡ false = lt-leb (suc (suc (suc i))) 2 (omega arith) in
     rw (e, x, y, z)
 
-pub header-third : (q : Marks) (n : Numbers) (k : ℕ) (s : Text) (a : Answer Found) → isHeader s ≡ true → 3 ≤ n .field
-    → a ≡ given (leafBehind q (record { field = n .field - 2; repetition = n .repetition; component = n .component; subcomponent = n .subcomponent }) k 9 s)
-    → a ≡ given (leafFound q n k s)
-header-third q n k s a e l g = g ∙ ap given (third q (n .field) (n .repetition) (n .component) (n .subcomponent) k s e l)
+pub header-third : (q : Marks) (n : Numbers) (k : ℕ) (s : Text) (a : Found) → isHeader s ≡ true → 3 ≤ n .field
+    → a ≡ leafBehind q (record { field = n .field - 2; repetition = n .repetition; component = n .component; subcomponent = n .subcomponent }) k 9 s
+    → a ≡ leafFound q n k s
+header-third q n k s a e l g = g ∙ (third q (n .field) (n .repetition) (n .component) (n .subcomponent) k s e l)
 
 -- MSH-1 and MSH-2: unsplit, and Empty beyond the first leaf
 whole-piece : (n : ℕ) (t : Text) (x : Bool) → eqb n 1 ≡ x → piece n (t ∷ []) ≡ pick x t []

@@ -6,17 +6,16 @@ use Rattle.parts.specs.Descent.{part, partStart}
 use Rattle.text.specs.Bytes.{within}
 use Rattle.parts.specs.Span.{stepsFrom}
 use mathlib.Core.Path.{ap}
-use Rattle.text.specs.Answer.{given}
-use Rattle.reader.proofs.Leaf.{behind-short, behind-reached}
+use Rattle.seek.proofs.Lying.{behind-short, behind-reached}
 use borrow.Author.Needs.{needs}
-use Rattle.reader.proofs.leaves.leaf_behind.Statement.{statement}
-use Rattle.reader.proofs.leaves.leaf_behind.Tie as tie
+use Rattle.seek.proofs.leaf_behind.Statement.{statement}
+use Rattle.seek.proofs.leaf_behind.Tie as tie
 
 returns : tie.Need-returns
 returns c =
     let o = c .before .before in
     let a = o .args in
-    ap given (behind-short (a .m .now) (a .start) (a .end) (a .skip) (o .pre .0) (o .pre .1) (a .q) (a .n) (c .if1 .taken))
+    (behind-short (a .m .now) (a .start) (a .end) (a .skip) (o .pre .0) (o .pre .1) (a .q) (a .n) (c .if1 .taken))
 
 returns-2 : tie.Need-returns-2
 returns-2 c =

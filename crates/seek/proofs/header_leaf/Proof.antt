@@ -1,18 +1,17 @@
 -- `header_leaf`: the header's fields counted their own way.
-use Rattle.reader.specs.Told.{foundOf}
+use Rattle.seek.specs.Inner.{leafTold}
 use mathlib.Core.Path.{ap, _∙_}
 use lib.ListN.{take, drop}
-use Rattle.text.specs.Answer.{given}
 use Rattle.text.specs.Bytes.{within}
-use Rattle.reader.proofs.Leaf.{header-third, header-none, header-first, header-second, clip-length}
+use Rattle.seek.proofs.Lying.{header-third, header-none, header-first, header-second, clip-length}
 use borrow.Author.Needs.{needs}
-use Rattle.reader.proofs.leaves.header_leaf.Statement.{statement}
-use Rattle.reader.proofs.leaves.header_leaf.Tie as tie
+use Rattle.seek.proofs.header_leaf.Statement.{statement}
+use Rattle.seek.proofs.header_leaf.Tie as tie
 
 returns : tie.Need-returns
 returns c =
     let o = c .before .before .before .before .before in
-    header-third (o .args .q) (o .args .n) (o .args .start) (within (o .args .start) (o .args .end) (o .args .m .now)) (foundOf (c .leaf-behind .result))
+    header-third (o .args .q) (o .args .n) (o .args .start) (within (o .args .start) (o .args .end) (o .args .m .now)) (leafTold (c .leaf-behind .result))
     (o .pre .1) (c .before .before .if1 .taken) (c .leaf-behind .ensures)
 
 returns-2 : tie.Need-returns-2
@@ -20,7 +19,7 @@ returns-2 c =
     let e = c .before .before .before .before in
     let o = e .before .before .before in
     let n = o .args .n in
-    ap given (header-none (o .args .q) (n .repetition) (n .component) (n .subcomponent) (o .args .start) (within (o .args .start) (o .args .end) (o .args .m .now)) (o .pre .1) (n .field) (e .if1 .left) (c .if2 .taken))
+    (header-none (o .args .q) (n .repetition) (n .component) (n .subcomponent) (o .args .start) (within (o .args .start) (o .args .end) (o .args .m .now)) (o .pre .1) (n .field) (e .if1 .left) (c .if2 .taken))
 
 returns-3 : tie.Need-returns-3
 returns-3 c =
@@ -31,7 +30,7 @@ returns-3 c =
     let n = a .n in
     let s = within (a .start) (a .end) (a .m .now) in
     c .clip .ensures (drop 3 (take 4 s)) (clip-length (a .m .now) (a .start) (a .end) (o .pre .0 .0) (o .pre .0 .1 .0) 3 4)
-    ∙ ap given (header-first (a .q) (n .repetition) (n .component) (n .subcomponent) (a .start) s (o .pre .1) (n .field) (c .before .if3 .taken) (d .if2 .left))
+    ∙ (header-first (a .q) (n .repetition) (n .component) (n .subcomponent) (a .start) s (o .pre .1) (n .field) (c .before .if3 .taken) (d .if2 .left))
 
 returns-4 : tie.Need-returns-4
 returns-4 c =
@@ -42,7 +41,7 @@ returns-4 c =
     let n = a .n in
     let s = within (a .start) (a .end) (a .m .now) in
     c .clip2 .ensures (drop 4 (take 8 s)) (clip-length (a .m .now) (a .start) (a .end) (o .pre .0 .0) (o .pre .0 .1 .0) 4 8)
-    ∙ ap given (header-second (a .q) (n .repetition) (n .component) (n .subcomponent) (a .start) s (o .pre .1) (n .field) (o .pre .0 .1 .1) (e .if1 .left) (c .before .if3 .left) (d .if2 .left))
+    ∙ (header-second (a .q) (n .repetition) (n .component) (n .subcomponent) (a .start) s (o .pre .1) (n .field) (o .pre .0 .1 .1) (e .if1 .left) (c .before .if3 .left) (d .if2 .left))
 
 pub header-leaf-spec : {M : Type 1} → statement M
 header-leaf-spec =
