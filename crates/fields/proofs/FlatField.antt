@@ -24,13 +24,14 @@ use Rattle.parts.proofs.Split.{before-first}
 use Rattle.parts.proofs.Join.{Free, split-one}
 use Rattle.profile.specs.Table.{Leaf}
 use Rattle.profile.specs.Numbers as row
-use Rattle.fields.specs.declared.repetition.ReadRepetition.{ReadRepetition}
+use Rattle.leaves.specs.declared.repetition.ReadRepetition.{ReadRepetition}
 use Rattle.checks.specs.Place.{Place, place}
 use Rattle.checks.specs.Fault.{leafChecks, firstBroken}
-use Rattle.fields.specs.Judged.{told, isPlain, isFlat, passed, passedOnce, ReadsRepetition, ReadsField}
-use Rattle.fields.proofs.LeafByLeaf.{Left, Reading, reading-judged}
+use Rattle.leaves.specs.Judged.{told, ReadsRepetition}
+use Rattle.fields.specs.Judged.{isPlain, isFlat, passed, passedOnce, ReadsField}
+use Rattle.leaves.proofs.LeafByLeaf.{Left, Reading, reading-judged}
 use Rattle.checks.proofs.Filled.{none-filled}
-use Rattle.fields.proofs.Breaks.{told-none}
+use Rattle.leaves.proofs.Breaks.{told-none}
 use Rattle.fields.proofs.Repeats.{repeats-first, repeats-read, repeats-last}
 
 -- parts of a flat text are flat

@@ -1,5 +1,2 @@
-pub mod Breaks
-pub mod LeafRule
-pub mod LeafByLeaf
 pub mod Repeats
 pub mod FlatField

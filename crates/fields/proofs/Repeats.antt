@@ -17,14 +17,15 @@ use Rattle.parts.specs.Split.{split, reach}
 use Rattle.parts.proofs.Reach.{split-end}
 use Rattle.parts.proofs.Join.{Some, split-some}
 use Rattle.profile.specs.Table.{Leaf}
-use Rattle.fields.specs.declared.repetition.ReadRepetition.{ReadRepetition}
+use Rattle.leaves.specs.declared.repetition.ReadRepetition.{ReadRepetition}
 use Rattle.fields.specs.declared.field.ReadField.{ReadField}
 use Rattle.checks.specs.Place.{Place, place}
 use Rattle.checks.specs.View.{Entry, Repetition, entriesOf, isFilled, filledFrom}
 use Rattle.checks.specs.Fault.{startsFilled, Verdict, accepted, fault, repetitionChecks, firstBroken}
-use Rattle.fields.specs.Judged.{told, repetitionsIn, filledIn, ReadsRepetition, ReadsField}
+use Rattle.leaves.specs.Judged.{told, ReadsRepetition}
+use Rattle.fields.specs.Judged.{repetitionsIn, filledIn, ReadsField}
 use Rattle.checks.proofs.Filled.{late-none}
-use Rattle.fields.proofs.Breaks.{orElse, broken-append}
+use Rattle.leaves.proofs.Breaks.{orElse, broken-append}
 
 -- the first broken check of these repetitions
 abbrev pub brokenIn : Marks → Text → ℕ → ℕ → List Repetition → Verdict

@@ -1,4 +1,4 @@
--- What only inner functions promise of judging a field: the first broken check of a repetition and of a field, told from where a reader stands.
+-- What only inner functions promise of judging a field: its first broken check, told from where a reader stands.
 use Prim.Native.Nat.{ℕ}
 use mathlib.Core.Path.{_≡_}
 use mathlib.Core.Bool.{Bool, true, false, not, _||_}
@@ -9,21 +9,12 @@ use Rattle.text.specs.Bytes.{Text, pick, empty, every}
 use Rattle.text.specs.declared.marks.Marks.{Marks}
 use Rattle.parts.specs.Split.{split}
 use Rattle.profile.specs.Table.{Leaf}
-use Rattle.fields.specs.declared.repetition.ReadRepetition.{ReadRepetition}
+use Rattle.leaves.specs.declared.repetition.ReadRepetition.{ReadRepetition}
+use Rattle.leaves.specs.Judged.{told}
 use Rattle.fields.specs.declared.field.ReadField.{ReadField}
-use Rattle.checks.specs.Place.{Place, place}
-use Rattle.checks.specs.View.{Repetition, entriesOf, isFilled, filledFrom}
-use Rattle.checks.specs.Fault.{Verdict, accepted, fault, repetitionChecks, startsFilled, firstBroken}
-
--- a reason of nought: nothing is broken
-abbrev pub told : Place → ℕ → Verdict
-told p n = pick (eqb n 0) accepted (fault p n)
-
--- A REPETITION: whether it is filled, and its first broken check
-pub record ReadsRepetition (q : Marks) (ls : List Leaf) (s : Text) (r : ReadRepetition) : Type 0 where
-  pub filled : r .filled ≡ isFilled (entriesOf q false ls s)
-  pub first : (n : Text) (o f k : ℕ) → told (place n o f k (r .component) (r .subcomponent)) (r .reason)
-      ≡ firstBroken (repetitionChecks q n o f (record { number = k; entries = entriesOf q false ls s }))
+use Rattle.checks.specs.Place.{place}
+use Rattle.checks.specs.View.{Repetition, entriesOf, filledFrom}
+use Rattle.checks.specs.Fault.{repetitionChecks, startsFilled, firstBroken}
 
 -- A FIELD: whether it has too many repetitions, whether its first is filled, and the first broken check of its filled ones
 abbrev pub repetitionsIn : Marks → Text → List Text

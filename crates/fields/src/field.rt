@@ -2,7 +2,7 @@
 ghost use Prim.Native.Nat.{_≤_};
 ghost use Rattle.profile.specs.Inner.{Lists, leavesAt};
 ghost use Rattle.fields.specs.Judged.{ReadsField};
-use crate::repetition::read_repetition;
+use leaves::read_repetition;
 use parts::piece_end;
 use profile::Rows;
 use text::Marks;

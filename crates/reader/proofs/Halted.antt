@@ -4,7 +4,7 @@ use Prim.Native.Nat.{ℕ, suc, _+_}
 use native.Mathlib.Numerals.{add-one}
 use mathlib.Core.List.{List, [], _∷_}
 use lib.ListN.{getD}
-use borrow.Author.Tests.{ne-eqb}
+use borrow.Author.Tests.{eq-eqb, ne-eqb}
 use Rattle.text.specs.Bytes.{Text, within}
 use Rattle.text.specs.Answer.{given}
 use Rattle.text.specs.declared.marks.Marks.{Marks}
@@ -17,9 +17,9 @@ use Rattle.walk.specs.declared.Halt.{Halt}
 use Rattle.checks.specs.Place.{place}
 use Rattle.checks.specs.Fault.{accepted, fault}
 use Rattle.reader.specs.Told.{verdictOf}
-use Rattle.segments.specs.Judged.{toldAt, ReadsSegment, HasNumber}
-use Rattle.walk.specs.Judged.{nameAt, countBefore, Here, numberAt, haltVerdict}
-use Rattle.fields.proofs.Breaks.{told-none, told-some}
+use Rattle.segments.specs.Judged.{toldAt, ReadsSegment}
+use Rattle.listing.specs.Listing.{nameAt, countBefore, HasNumber, Here}
+use Rattle.walk.specs.Judged.{numberAt, haltVerdict}
 use Rattle.walk.proofs.Walking.{named-there, named-inside, three-bytes}
 
 -- the number of the name that stands there
@@ -51,11 +51,11 @@ module _ (t : List ℕ) (m : Text) (h : Halt) where
 
   module _ (r : Finding) (tells : Tells r) where
     pub halted-good : r .reason ≡ 0 → given accepted ≡ given (haltVerdict (tableOf t) m h)
-    halted-good e = ap given (sym (told-none _ (r .reason) e) ∙ tells)
+    halted-good e = rw (← tells, eq-eqb (r .reason) 0 e)
 
     pub halted-fault : (r .reason ≡ 0 → ⊥) → Here m (h .start) (h .end) (numberAt m (h .start) (h .end)) → (a : ℕ) (v : code.Verdict)
         → a ≡ countBefore m (h .start) (nameAt m (h .start)) + 1
         → verdictOf v ≡ given (fault (place (nameAt m (h .start)) a (r .field) (r .repetition) (r .component) (r .subcomponent)) (r .reason))
         → verdictOf v ≡ given (haltVerdict (tableOf t) m h)
     halted-fault n here a v e f =
-        f ∙ rw (e, named-there m (h .start) (h .end) (numberAt m (h .start) (h .end)) here, add-one) (ap given (sym (told-some _ (r .reason) n) ∙ tells))
+        f ∙ rw (e, named-there m (h .start) (h .end) (numberAt m (h .start) (h .end)) here, add-one) (rw (← tells, ne-eqb (r .reason) 0 n))

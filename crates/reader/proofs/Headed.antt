@@ -23,7 +23,8 @@ use Rattle.walk.specs.declared.Halt.{Halt}
 use Rattle.checks.specs.View.{listedSegments, view}
 use Rattle.checks.specs.Fault.{checks, verdict, judge}
 use Rattle.reader.specs.Told.{verdictOf}
-use Rattle.walk.specs.Judged.{Here, Next, haltVerdict, Counts, Walks}
+use Rattle.listing.specs.Listing.{Here, Next}
+use Rattle.walk.specs.Judged.{haltVerdict, Counts, Walks}
 use Rattle.profile.proofs.Rules.{tells-same, listed-number}
 
 module _ (t : List ℕ) (m : Text) (sound : Sound t) (good : framed m ≡ true) where

@@ -12,22 +12,23 @@ ghost use Rattle.checks.specs.Fault.{fault, verdict};
 ghost use Rattle.checks.specs.Place.{place};
 ghost use Rattle.reader.specs.Promise.{Judges};
 ghost use Rattle.reader.specs.Told.{verdictOf};
-ghost use Rattle.walk.specs.Judged.{nameAt, Here, haltVerdict, numberAt};
+ghost use Rattle.listing.specs.Listing.{nameAt, Here};
+ghost use Rattle.walk.specs.Judged.{haltVerdict, numberAt};
 use crate::Fault;
 use crate::Place;
 use crate::Verdict;
 use frame::Framing;
 use frame::check;
+use listing::Listed;
+use listing::next_listed;
+use listing::occurrence_at;
 use profile::profile;
 use profile::segment_number;
 use segments::Finding;
 use segments::read_segment;
 use text::marks_of;
 use walk::Halt;
-use walk::Listed;
 use walk::header;
-use walk::next_listed;
-use walk::occurrence_at;
 
 // A fault of the segment that starts there, of that occurrence of its name.
 fn fault_at(m: &[u8], start: usize, occurrence: u64, r: Finding) -> Verdict

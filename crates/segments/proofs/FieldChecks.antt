@@ -19,7 +19,8 @@ use Rattle.fields.specs.declared.field.ReadField.{ReadField}
 use Rattle.segments.specs.declared.Finding.{Finding}
 use Rattle.checks.specs.View.{Repetition, Field, filledFrom, fieldSeen, segmentSeen}
 use Rattle.checks.specs.Fault.{Verdict, accepted, firstFilled, isRequired, repetitionChecks, fieldChecks, firstBroken}
-use Rattle.segments.specs.Judged.{toldAt, atRepetition, HasNumber, ReadsFieldAt, leavesOfField}
+use Rattle.listing.specs.Listing.{HasNumber}
+use Rattle.segments.specs.Judged.{toldAt, atRepetition, ReadsFieldAt, leavesOfField}
 use Rattle.fields.specs.Judged.{repetitionsIn, filledIn, ReadsField}
 use Rattle.segments.proofs.FieldText.{field-split, seen-surplus, seen-filled, seen-first}
 

@@ -21,7 +21,8 @@ use Rattle.profile.specs.Inner.{Lists, Ascends, IsField, leavesAt, leavesNamed}
 use Rattle.profile.proofs.OneField.{field-namer, leaves-plain, leaves-named}
 use Rattle.checks.specs.Place.{leafAt}
 use Rattle.checks.specs.View.{namedIn}
-use Rattle.segments.specs.Judged.{HasNumber, leavesOfField}
+use Rattle.listing.specs.Listing.{HasNumber}
+use Rattle.segments.specs.Judged.{leavesOfField}
 use Rattle.segments.proofs.FieldText.{field-split}
 
 -- the first piece of a text, told by its end

@@ -19,7 +19,7 @@ use Rattle.profile.specs.Table.{Table, Rule, leavesOf}
 use Rattle.checks.specs.Place.{repetitions}
 use Rattle.checks.specs.View.{namedIn, fieldSeen}
 use Rattle.checks.specs.Fault.{startsFilled, firstFilled}
-use Rattle.segments.specs.Judged.{HasNumber}
+use Rattle.listing.specs.Listing.{HasNumber}
 use Rattle.fields.specs.Judged.{repetitionsIn, filledIn}
 use Rattle.parts.proofs.Moving.{cursor-text}
 use Rattle.profile.proofs.Numbered.{header-number}

@@ -16,7 +16,7 @@ use Rattle.profile.specs.Order.{areOf, Ordered}
 use Rattle.profile.specs.Inner.{Under, ofField, IsField, ruleAt}
 use Rattle.checks.specs.View.{Field, fieldSeen, segmentSeen}
 use Rattle.checks.specs.Fault.{firstFilled, isRequired}
-use Rattle.segments.specs.Judged.{HasNumber}
+use Rattle.listing.specs.Listing.{HasNumber}
 use Rattle.profile.proofs.RowSteps.{rows-none}
 use Rattle.profile.proofs.OneField.{field-bounds, rules-at, field-is, ordered-rest, of-rest, field-later, field-low}
 use Rattle.profile.proofs.Rules.{rules-under}

@@ -19,9 +19,10 @@ use Rattle.segments.specs.declared.Finding.{Finding}
 use Rattle.checks.specs.Place.{Place, place}
 use Rattle.checks.specs.View.{Field, fieldSeen, segmentSeen}
 use Rattle.checks.specs.Fault.{Verdict, isRequired, fieldChecks, firstBroken}
-use Rattle.fields.specs.Judged.{told}
-use Rattle.segments.specs.Judged.{toldAt, atRepetition, HasNumber, ReadsFieldAt, ReadsSegment}
-use Rattle.fields.proofs.Breaks.{orElse, broken-append}
+use Rattle.leaves.specs.Judged.{told}
+use Rattle.listing.specs.Listing.{HasNumber}
+use Rattle.segments.specs.Judged.{toldAt, atRepetition, ReadsFieldAt, ReadsSegment}
+use Rattle.leaves.proofs.Breaks.{orElse, broken-append}
 use Rattle.segments.proofs.FieldText.{before-field, field-at}
 use Rattle.segments.proofs.FieldChecks.{none-missing, none-passes}
 use Rattle.segments.proofs.SegmentFields.{Left, seenFrom, left-first, seen-all, on-number, on-later, left-on, seen-on, seen-none}

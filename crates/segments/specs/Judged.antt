@@ -1,18 +1,17 @@
 -- What only inner functions promise of judging a segment: the first broken check of its fields.
-use Prim.Native.Nat.{ℕ, _≤_}
+use Prim.Native.Nat.{ℕ}
 use mathlib.Core.Path.{_≡_}
 use mathlib.Core.List.{List, flatMap}
 use Rattle.text.specs.Bytes.{Text}
 use Rattle.text.specs.declared.marks.Marks.{Marks}
-use Rattle.frame.specs.Segments.{name}
 use Rattle.profile.specs.Table.{Leaf, Table, leavesOf}
-use Rattle.profile.specs.Numbers.{segmentNumber, tableOf}
+use Rattle.profile.specs.Numbers.{tableOf}
 use Rattle.profile.specs.Inner.{ruleAt}
 use Rattle.segments.specs.declared.Finding.{Finding}
 use Rattle.checks.specs.Place.{place}
 use Rattle.checks.specs.View.{Field, namedIn, fieldSeen, segmentSeen}
 use Rattle.checks.specs.Fault.{Verdict, fieldChecks, firstBroken}
-use Rattle.fields.specs.Judged.{told}
+use Rattle.leaves.specs.Judged.{told}
 
 -- A SEGMENT: the first broken check of its listed fields
 abbrev pub toldAt : Text → ℕ → Finding → Verdict
@@ -37,7 +36,3 @@ abbrev pub ReadsFieldAt : Marks → List ℕ → Text → ℕ → ℕ → Findin
 ReadsFieldAt q t s at end r =
     (n : Text) (o : ℕ)
     → toldAt n o r ≡ firstBroken (fieldChecks q n o (fieldsSeen t q s) (fieldSeen (tableOf t) q s (ruleAt t at end)))
-
--- the segment has the name of that number
-abbrev pub HasNumber : Text → ℕ → Type 0
-HasNumber s k = (segmentNumber (name s) ≡ k) × (1 ≤ k)

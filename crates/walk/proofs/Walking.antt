@@ -18,20 +18,21 @@ use Rattle.profile.specs.Table.{Table, mayFollow, mayEnd}
 use Rattle.profile.specs.Numbers.{segmentNames, segmentNumber, tableOf}
 use Rattle.profile.specs.Order.{Sound}
 use Rattle.segments.specs.declared.Finding.{Finding}
-use Rattle.walk.specs.declared.listing.Listed.{Listed}
+use Rattle.listing.specs.declared.Listed.{Listed}
 use Rattle.walk.specs.declared.Halt.{Halt}
 use Rattle.walk.specs.declared.Onward.{Onward}
 use Rattle.walk.specs.declared.Onward.the-variants as onward
 use Rattle.checks.specs.Place.{Place, place}
 use Rattle.checks.specs.View.{segmentSeen, listedSegments}
 use Rattle.checks.specs.Fault.{Verdict, accepted, fault, Check, fieldChecks, firstBroken, count, walk}
-use Rattle.fields.specs.Judged.{told}
+use Rattle.leaves.specs.Judged.{told}
 use Rattle.segments.specs.Judged.{toldAt, ReadsSegment}
-use Rattle.walk.specs.Judged.{nameAt, countFrom, countBefore, Here, numberAt, Next, NextIs, walkFrom, Counts, Walks}
+use Rattle.listing.specs.Listing.{nameAt, countFrom, countBefore, Here, Next, NextIs}
+use Rattle.walk.specs.Judged.{numberAt, walkFrom, Counts, Walks}
 use Rattle.walk.specs.Onward.{Behind, OnwardIs}
 use Rattle.profile.proofs.Numbered.{named-number}
-use Rattle.fields.proofs.Breaks.{orElse, broken-append}
-use Rattle.walk.proofs.Counted.{count-on}
+use Rattle.leaves.proofs.Breaks.{orElse, broken-append}
+use Rattle.listing.proofs.Counted.{count-on}
 
 -- ---- the seven names by their numbers
 

@@ -1,57 +1,21 @@
--- What only inner functions promise of the walk: where a segment stands, which is next, and where reading stops.
-use Prim.Native.Nat.{ℕ, suc, _+_, _-_, _≤_, _<_}
+-- What only inner functions promise of the walk: where reading stops.
+use Prim.Native.Nat.{ℕ, suc, _+_, _≤_}
 use mathlib.Core.Path.{_≡_}
 use mathlib.Core.Bool.{true}
-use mathlib.Core.List.{List, [], _∷_, map, flatMap}
-use lib.ListN.{length, getD, take, drop}
+use mathlib.Core.List.{List, _∷_, map, flatMap}
+use lib.ListN.{drop}
 use lib.Dec.{eqb}
-use Rattle.text.specs.Bytes.{Text, pick, cr, within}
+use Rattle.text.specs.Bytes.{Text, pick, within}
 use Rattle.text.specs.Marks.{marksOf}
-use Rattle.parts.specs.Split.{reach}
-use Rattle.frame.specs.Segments.{segments, name}
+use Rattle.frame.specs.Segments.{name}
 use Rattle.profile.specs.Table.{Table, mayFollow}
 use Rattle.profile.specs.Numbers.{segmentNumber}
-use Rattle.walk.specs.declared.listing.Listed.{Listed}
-use Rattle.walk.specs.declared.listing.Listed.the-variants as listed
 use Rattle.walk.specs.declared.Halt.{Halt}
 use Rattle.checks.specs.Place.{place}
 use Rattle.checks.specs.View.{segmentSeen, listedSegments}
 use Rattle.checks.specs.Fault.{Verdict, fieldChecks, firstBroken, count, walk}
-use Rattle.fields.specs.Judged.{told}
-use Rattle.segments.specs.Judged.{HasNumber}
-
--- the name that stands at a place of a message
-abbrev pub nameAt : Text → ℕ → Text
-nameAt m at = take 3 (drop at m)
-
--- how many segments from a place on have a name, and how many before it
-abbrev pub countFrom : Text → ℕ → Text → ℕ
-countFrom m at n = count n (map name (segments (drop at m)))
-
-abbrev pub countBefore : Text → ℕ → Text → ℕ
-countBefore m at n = countFrom m 0 n - countFrom m at n
-
--- a segment starts there: behind a CR, or at the message's start, as if a CR stood before it
-abbrev pub Opens : Text → ℕ → Type 0
-Opens m at = getD (cr ∷ m) at 0 ≡ cr
-
--- A SEGMENT STANDS THERE, and its name has number k
-pub record Here (m : Text) (start end k : ℕ) : Type 0 where
-  pub opens : Opens m start
-  pub ends : end ≡ start + reach cr (drop start m)
-  pub high : end < length m
-  pub number : HasNumber (within start end m) k
-
--- THE NEXT LISTED SEGMENT from a place on: those passed over have no listed name
-pub record Next (T : Table) (m : Text) (at start end k : ℕ) : Type 0 where
-  pub low : at ≤ start
-  pub here : Here m start end k
-  pub first : listedSegments T (drop at m) ≡ within start end m ∷ listedSegments T (drop (end + 1) m)
-  pub counts : (n : Text) → 1 ≤ segmentNumber n → countFrom m at n ≡ countFrom m start n
-
-abbrev pub NextIs : Table → Text → ℕ → Listed → Type 0
-NextIs T m at listed.None = listedSegments T (drop at m) ≡ []
-NextIs T m at (listed.Segment start end k) = Next T m at start end k
+use Rattle.leaves.specs.Judged.{told}
+use Rattle.listing.specs.Listing.{countFrom, countBefore, Here}
 
 abbrev pub numberAt : Text → ℕ → ℕ → ℕ
 numberAt m start end = segmentNumber (name (within start end m))

@@ -8,7 +8,8 @@ use Rattle.frame.specs.Segments.{name}
 use Rattle.profile.specs.Table.{Table, mayFollow}
 use Rattle.walk.specs.declared.Onward.{Onward}
 use Rattle.walk.specs.declared.Onward.the-variants as onward
-use Rattle.walk.specs.Judged.{Here, Counts, walkFrom, Walks}
+use Rattle.listing.specs.Listing.{Here}
+use Rattle.walk.specs.Judged.{Counts, walkFrom, Walks}
 
 -- THE SEGMENT BEHIND the one that stands from start to end: the verdict from there on is the verdict
 pub record Behind (T : Table) (m : Text) (start end start' end' k : ℕ) : Type 0 where

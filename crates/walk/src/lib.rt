@@ -7,14 +7,11 @@ ghost use lib.Dec.{ltb};
 ghost use Rattle.text.specs.Bytes.{pick};
 ghost use Rattle.profile.specs.Numbers.{tableOf};
 ghost use Rattle.profile.specs.Order.{Sound};
-ghost use Rattle.walk.specs.Judged.{Here, Walks};
+ghost use Rattle.listing.specs.Listing.{Here};
+ghost use Rattle.walk.specs.Judged.{Walks};
 ghost use Rattle.walk.specs.Onward.{OnwardIs};
-
-mod listing;
-
-pub use listing::Listed;
-pub use listing::next_listed;
-pub use listing::occurrence_at;
+use listing::Listed;
+use listing::next_listed;
 use segments::read_segment;
 use text::marks_of;
 

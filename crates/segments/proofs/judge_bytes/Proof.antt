@@ -1,5 +1,5 @@
 -- `judge_bytes`: a field that passes breaks nothing; any other is taken apart.
-use mathlib.Core.Path.{refl, _∙_}
+use mathlib.Core.Path.{refl}
 use mathlib.Core.Logic.{⊎-elim}
 use Prim.Native.Nat.{_+_}
 use lib.ListN.{getD}

@@ -3,8 +3,8 @@ use borrow.Author.Needs.{needs}
 use native.Mathlib.Omega.{arith}
 use Prim.Native.Nat.{_+_}
 use Rattle.profile.specs.Numbers.{tableOf}
-use Rattle.walk.specs.declared.listing.Listed.the-variants.{None, Segment}
-use Rattle.walk.proofs.Counted.{opens-behind}
+use Rattle.listing.specs.declared.Listed.the-variants.{None, Segment}
+use Rattle.listing.proofs.Counted.{opens-behind}
 use Rattle.walk.proofs.Walking.{next-as, walks-broken, walks-end, walks-behind}
 use Rattle.walk.proofs.read_on.Statement.{statement}
 use Rattle.walk.proofs.read_on.Tie as tie

@@ -8,11 +8,11 @@ use borrow.Author.Tests.{eqb-true, not-false}
 use lib.Dec.{eqb}
 use Rattle.checks.specs.Place.{place}
 use Rattle.fields.specs.Judged.{passedOnce}
-use Rattle.fields.proofs.Breaks.{told-none}
+use Rattle.leaves.proofs.Breaks.{told-none}
 use Rattle.text.specs.Bytes.{within}
 use Rattle.text.proofs.Tests.{not-true, both}
 use Rattle.parts.proofs.Moving.{cursor-inside}
-use Rattle.fields.proofs.LeafByLeaf.{Reading, reading-first, reading-number, reading-reason, reading-missing, reading-none}
+use Rattle.leaves.proofs.LeafByLeaf.{Reading, reading-first, reading-number, reading-reason, reading-missing, reading-none}
 use Rattle.fields.proofs.FlatField.{flat-good, flat-on}
 use Rattle.fields.proofs.flat.leaves_pass.Statement.{statement}
 use Rattle.fields.proofs.flat.leaves_pass.Tie as tie

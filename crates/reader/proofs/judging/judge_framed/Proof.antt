@@ -3,8 +3,8 @@ use borrow.Author.Needs.{needs}
 use mathlib.Core.Path.{refl, ap, _∙_}
 use Rattle.text.specs.Answer.{given}
 use Rattle.profile.specs.Numbers.{tableOf}
-use Rattle.walk.specs.declared.listing.Listed.the-variants.{None, Segment}
-use Rattle.walk.specs.Judged.{Next}
+use Rattle.listing.specs.declared.Listed.the-variants.{None, Segment}
+use Rattle.listing.specs.Listing.{Next}
 use Rattle.walk.proofs.Walking.{next-as}
 use Rattle.reader.proofs.Headed.{headed-some, headed-here, headed-walk}
 use Rattle.reader.proofs.judging.judge_framed.Statement.{statement}

@@ -1,0 +1,81 @@
+-- The first check that a leaf's text breaks: one law for each way out.
+use mathlib.Core.Path.{_≡_, refl, sym}
+use Prim.Native.Nat.{ℕ, _+_, _≤_, _<_}
+use native.Mathlib.Omega.{arith}
+use mathlib.Core.Bool.{Bool, true, false, not}
+use mathlib.Core.List.{List, [], _∷_}
+use lib.ListN.{length, getD, drop}
+use lib.Seq.{getD-drop}
+use borrow.Author.Tests.{eq-eqb, ne-eqb, lt-ltb, le-ltb}
+use Rattle.text.specs.Bytes.{Text, empty}
+use Rattle.escape.specs.Escape.{endsOutside, badEscape}
+use Rattle.text.specs.declared.marks.Marks.{Marks}
+use Rattle.text.proofs.Tests.{empty-none, empty-some}
+use Rattle.profile.specs.Table.{ofType, among}
+use Rattle.profile.proofs.Numbered.{other-type}
+use Rattle.profile.specs.Numbers.{leafOf, simpleOf, codesOf}
+use Rattle.checks.specs.Place.{Place}
+use Rattle.checks.specs.Fault.{Verdict, accepted, fault, check, leafChecks, firstBroken}
+use Rattle.leaves.specs.Judged.{told}
+
+-- no bytes, no escape
+no-escape : (q : Marks) (s : Text) → length s ≡ 0 → badEscape q s ≡ false
+unfolding endsOutside
+no-escape q [] e = refl
+no-escape q (b ∷ s) e = absurd (omega arith)
+
+module _ (q : Marks) (t : List ℕ) (at : ℕ) (s : Text) where
+  abbrev number : ℕ → ℕ
+  number i = getD t (at + i) 0
+
+  abbrev first : Place → Verdict
+  first p = firstBroken (leafChecks q p (leafOf (drop at t)) s)
+
+  module _ (none : length s ≡ 0) where
+    pub rule-missing : number 7 ≡ 1 → (p : Place) → fault p 3 ≡ first p
+    unfolding firstBroken
+    rule-missing e p = rw (empty-none s none, getD-drop at t 7 0, eq-eqb (number 7) 1 e)
+
+    pub rule-empty : (number 7 ≡ 1 → ⊥) → (p : Place) → accepted ≡ first p
+    unfolding firstBroken
+    rule-empty e p =
+        rw (empty-none s none, no-escape q s none, getD-drop at t 7 0, ne-eqb (number 7) 1 e, le-ltb (getD (drop at t) 8 0) (length s) (omega arith))
+
+  module _ (some : length s ≡ 0 → ⊥) where
+    filled : empty s ≡ false
+    filled = empty-some s some
+
+    pub rule-long : number 8 < length s → (p : Place) → fault p 5 ≡ first p
+    unfolding firstBroken
+    rule-long l p = rw (filled, getD-drop at t 8 0, lt-ltb (number 8) (length s) l)
+
+    module _ (fits : length s ≤ number 8) where
+      short : (p : Place) → first p ≡ firstBroken (check p 6 (badEscape q s) ∷ check p 7 (not (ofType (simpleOf (number 6)) s)) ∷ check p (number 10) (not (among (codesOf (number 9)) s)) ∷ [])
+      unfolding firstBroken
+      short p = rw (filled, getD-drop at t 8 0, le-ltb (number 8) (length s) fits, getD-drop at t 6 0, getD-drop at t 9 0, getD-drop at t 10 0)
+
+      module _ (bad : Bool) (escaped : bad ≡ badEscape q s) where
+        pub rule-escape : bad ≡ true → (p : Place) → fault p 6 ≡ first p
+        unfolding firstBroken
+        rule-escape e p = rw (short p, ← escaped, e)
+
+        module _ (good : bad ≡ false) (typed : Bool) (is-typed : typed ≡ ofType (simpleOf (number 6)) s) where
+          pub rule-type : not typed ≡ true → (p : Place) → fault p 7 ≡ first p
+          unfolding firstBroken
+          rule-type e p = rw (short p, ← escaped, good, ← is-typed, e)
+
+          module _ (of-type : not typed ≡ false) (listed : Bool) (is-listed : listed ≡ among (codesOf (number 9)) s) where
+            pub rule-list : not listed ≡ true → 1 ≤ number 10 → (p : Place) → told p (number 10) ≡ first p
+            unfolding firstBroken
+            rule-list e l p = rw (short p, ← escaped, good, ← is-typed, of-type, ← is-listed, e, ne-eqb (number 10) 0 (λ z. omega (arith, z)))
+
+            pub rule-good : not listed ≡ false → (p : Place) → accepted ≡ first p
+            unfolding firstBroken
+            rule-good e p = rw (short p, ← escaped, good, ← is-typed, of-type, ← is-listed, e)
+
+-- a leaf whose type and list take any text
+pub rule-any : (q : Marks) (t : List ℕ) (at : ℕ) (s : Text) → 0 < length s → length s ≤ getD t (at + 8) 0 → 4 < getD t (at + 6) 0 → getD t (at + 9) 0 ≡ 0 → badEscape q s ≡ false
+    → (p : Place) → accepted ≡ firstBroken (leafChecks q p (leafOf (drop at t)) s)
+rule-any q t at s some fits type list good p =
+    rule-good q t at s (λ z. omega (arith, z)) fits false (sym good) refl true
+    (other-type (getD t (at + 6) 0) s (λ z. omega (arith, z)) (λ z. omega (arith, z)) (λ z. omega (arith, z)) (λ z. omega (arith, z))) refl true (rw list) refl p

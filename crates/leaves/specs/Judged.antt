@@ -1,0 +1,23 @@
+-- What only inner functions promise of judging a repetition: its first broken check, told from where a reader stands.
+use Prim.Native.Nat.{ℕ}
+use mathlib.Core.Path.{_≡_}
+use mathlib.Core.Bool.{false}
+use mathlib.Core.List.{List}
+use lib.Dec.{eqb}
+use Rattle.text.specs.Bytes.{Text, pick}
+use Rattle.text.specs.declared.marks.Marks.{Marks}
+use Rattle.profile.specs.Table.{Leaf}
+use Rattle.leaves.specs.declared.repetition.ReadRepetition.{ReadRepetition}
+use Rattle.checks.specs.Place.{Place, place}
+use Rattle.checks.specs.View.{entriesOf, isFilled}
+use Rattle.checks.specs.Fault.{Verdict, accepted, fault, repetitionChecks, firstBroken}
+
+-- a reason of nought: nothing is broken
+abbrev pub told : Place → ℕ → Verdict
+told p n = pick (eqb n 0) accepted (fault p n)
+
+-- A REPETITION: whether it is filled, and its first broken check
+pub record ReadsRepetition (q : Marks) (ls : List Leaf) (s : Text) (r : ReadRepetition) : Type 0 where
+  pub filled : r .filled ≡ isFilled (entriesOf q false ls s)
+  pub first : (n : Text) (o f k : ℕ) → told (place n o f k (r .component) (r .subcomponent)) (r .reason)
+      ≡ firstBroken (repetitionChecks q n o f (record { number = k; entries = entriesOf q false ls s }))

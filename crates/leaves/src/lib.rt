@@ -1,0 +1,9 @@
+// Judging a leaf: its own rule, the listed leaves of a repetition. Inner: the callers hold what the rows list.
+mod repetition;
+mod rule;
+
+pub use repetition::ReadRepetition;
+pub use repetition::missing_leaves;
+pub use repetition::read_repetition;
+pub use rule::leaf_reason;
+pub use rule::takes_any;
