@@ -27,11 +27,11 @@ use Rattle.slip.specs.Book.{bookAfter}
 use Rattle.slip.specs.Told.{done}
 use Rattle.slip.specs.Promise.{Files}
 use Rattle.slip.proofs.Unique.{file-unique}
-use Rattle.demands.specs.Strike.{isListedPlace, strike}
-use Rattle.demands.specs.Fit.{fit, hasCopies}
+use Rattle.striking.specs.Strike.{isListedPlace, strike}
+use Rattle.striking.specs.Fit.{fit, hasCopies}
 use Rattle.demands.specs.Demand3.{shown, lookUpShown, shownBy, handedShown, SameShown, Unmoved, Demand3}
 use Rattle.demands.proofs.SameAnswers.{good′, checks-same, judge-same, look-same, reply-same, file-same}
-use Rattle.demands.proofs.Striking.{not-empty}
+use Rattle.striking.proofs.Striking.{not-empty}
 
 -- what a look-up hands back has the bytes that its answer names
 shown-step : (f : code-found.Found) (t m : Text) → t ≡ within (startOf f) (endOf f) m → shownBy f t ≡ tell (shown m) (foundOf f)

@@ -1,17 +1,8 @@
 pub mod Contracts
-pub mod ByExample
 pub mod Judged
 pub mod Demand1
 pub mod Counts
 pub mod Idle
 pub mod Demand2
-pub mod Shrink
-pub mod Kept
-pub mod Seen
-pub mod Message
-pub mod Listed
 pub mod SameAnswers
-pub mod Gone
-pub mod Separators
-pub mod Striking
 pub mod Demand3

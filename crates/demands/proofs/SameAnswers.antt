@@ -28,13 +28,13 @@ use Rattle.reply.specs.Reply.{replyText, reply}
 use Rattle.reader.specs.Observations.{observations, observationsFrom, observationsOf}
 use Rattle.slip.specs.Slip.{slipText}
 use Rattle.slip.specs.Book.{file}
-use Rattle.demands.specs.Strike.{isListedPlace, strikeSegment, strike}
-use Rattle.demands.specs.Fit.{listsComponent, hasRow, fit, Copied, copied, copies, hasCopies}
+use Rattle.striking.specs.Strike.{isListedPlace, strikeSegment, strike}
+use Rattle.striking.specs.Fit.{listsComponent, hasRow, fit, Copied, copied, copies, hasCopies}
 use Rattle.demands.specs.Demand3.{Shown, shown, lookUpShown}
-use Rattle.demands.proofs.Kept.{name-struck}
-use Rattle.demands.proofs.Seen.{has-row}
-use Rattle.demands.proofs.Message.{L, strikes, segments-struck, view-same, frame-struck, marks-struck}
-use Rattle.demands.proofs.Listed.{not-named, found-named, occurrences-same, text-none, text-same, listed-text}
+use Rattle.striking.proofs.Kept.{name-struck}
+use Rattle.striking.proofs.Seen.{has-row}
+use Rattle.striking.proofs.Message.{L, strikes, segments-struck, view-same, frame-struck, marks-struck}
+use Rattle.striking.proofs.Listed.{not-named, found-named, occurrences-same, text-none, text-same, listed-text}
 
 -- 1. The count of a group's observations
 module _ (T : Table) (q : Marks) (obr : isListed T (bytes "OBR") ≡ true) (obx : isListed T (bytes "OBX") ≡ true) where

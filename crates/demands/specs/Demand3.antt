@@ -25,9 +25,9 @@ use Rattle.reply.specs.Reply.{reply}
 use Rattle.reply.specs.Promise.{Replies}
 use Rattle.slip.specs.Book.{file}
 use Rattle.slip.specs.Promise.{Files}
-use Rattle.demands.specs.Strike.{isListedPlace, strike}
-use Rattle.demands.specs.Fit.{fit, hasCopies}
-use Rattle.demands.specs.Striking.{NotEmpty}
+use Rattle.striking.specs.Strike.{isListedPlace, strike}
+use Rattle.striking.specs.Fit.{fit, hasCopies}
+use Rattle.striking.specs.Striking.{NotEmpty}
 
 -- a look-up's answer by its bytes, since striking moves the starts
 pub data Shown : Type 0 where

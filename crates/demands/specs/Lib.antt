@@ -1,8 +1,8 @@
+pub use Rattle.striking.specs.Strike
+pub use Rattle.striking.specs.Fit
+pub use Rattle.striking.specs.Striking
 pub mod Contracts
 pub mod Demand1
 pub mod Idle
 pub mod Demand2
-pub mod Strike
-pub mod Fit
-pub mod Striking
 pub mod Demand3

@@ -11,11 +11,11 @@ use Rattle.text.specs.declared.marks.Marks.{Marks}
 use Rattle.parts.specs.Split.{front, split, piece}
 use Rattle.frame.specs.Segments.{name, isHeader, field, unsplit}
 use Rattle.profile.specs.Table.{Table}
-use Rattle.demands.specs.Strike.{rewritten, onlyIf, hasComponent, strikeSubcomponent, strikeComponent, hasField, leavesAt, strikeField, strikeAfterNinth, strikeHeader, strikeOther, strikeSegment}
-use Rattle.demands.specs.Striking.{pieces, Leaves}
-use Rattle.demands.proofs.Shrink.{piece-rewritten, count-rewritten}
-use Rattle.demands.proofs.Kept.{subcomponent-shrinks, component-shrinks, unless, component-field, strikeIn, in-shrinks, field-shrinks, field-struck, after-shrinks}
-use Rattle.demands.proofs.Gone.{split-none}
+use Rattle.striking.specs.Strike.{rewritten, onlyIf, hasComponent, strikeSubcomponent, strikeComponent, hasField, leavesAt, strikeField, strikeAfterNinth, strikeHeader, strikeOther, strikeSegment}
+use Rattle.striking.specs.Striking.{pieces, Leaves}
+use Rattle.striking.proofs.Shrink.{piece-rewritten, count-rewritten}
+use Rattle.striking.proofs.Kept.{subcomponent-shrinks, component-shrinks, unless, component-field, strikeIn, in-shrinks, field-shrinks, field-struck, after-shrinks}
+use Rattle.striking.proofs.Gone.{split-none}
 
 -- 1. Between the fields
 front-count : (k : Bool) (b : ℕ) (ps rs : List Text) → length ps ≡ length rs → length (front k b ps) ≡ length (front k b rs)

@@ -14,10 +14,10 @@ use Rattle.parts.specs.Split.{piece}
 use Rattle.frame.specs.Segments.{segments, name, named, ofName, occurrence}
 use Rattle.profile.specs.Table.{Table, isListed}
 use Rattle.reader.specs.Place.{Place, textAt}
-use Rattle.demands.specs.Strike.{isListedPlace, hasLeaf, leavesAt, strikeSegment, strike}
-use Rattle.demands.proofs.Shrink.{sub-empty}
-use Rattle.demands.proofs.Kept.{name-struck, leaf-struck, segment-sub}
-use Rattle.demands.proofs.Message.{L, strikes, segments-struck}
+use Rattle.striking.specs.Strike.{isListedPlace, hasLeaf, leavesAt, strikeSegment, strike}
+use Rattle.striking.proofs.Shrink.{sub-empty}
+use Rattle.striking.proofs.Kept.{name-struck, leaf-struck, segment-sub}
+use Rattle.striking.proofs.Message.{L, strikes, segments-struck}
 
 -- 1. The segments of a listed name
 module _ (T : Table) (q : Marks) (n : Text) (listed : isListed T n ≡ true) where

@@ -15,14 +15,14 @@ use Rattle.profile.specs.Table.{Table, isListed}
 use Rattle.profile.specs.Profile.{profile01}
 use Rattle.reader.specs.Place.{Place, textAt}
 use Rattle.reader.proofs.Patient.{header-listed}
-use Rattle.demands.specs.Strike.{hasLeaf, leavesAt, strikeSegment, strike}
-use Rattle.demands.specs.Striking.{inFirstNine, Striking, NotEmpty}
-use Rattle.demands.proofs.ByExample.{examples-hold, P5-changes, P6-changes}
-use Rattle.demands.proofs.Kept.{name-struck}
-use Rattle.demands.proofs.Message.{L, segments-struck, begins, struck-nine, marks-struck}
-use Rattle.demands.proofs.Listed.{found-named, occurrence-struck, listed-text}
-use Rattle.demands.proofs.Gone.{leaf-none, leaf-struck-out, none-left, splits}
-use Rattle.demands.proofs.Separators.{leaves}
+use Rattle.striking.specs.Strike.{hasLeaf, leavesAt, strikeSegment, strike}
+use Rattle.striking.specs.Striking.{inFirstNine, Striking, NotEmpty}
+use Rattle.striking.proofs.ByExample.{examples-hold, P5-changes, P6-changes}
+use Rattle.striking.proofs.Kept.{name-struck}
+use Rattle.striking.proofs.Message.{L, segments-struck, begins, struck-nine, marks-struck}
+use Rattle.striking.proofs.Listed.{found-named, occurrence-struck, listed-text}
+use Rattle.striking.proofs.Gone.{leaf-none, leaf-struck-out, none-left, splits}
+use Rattle.striking.proofs.Separators.{leaves}
 
 -- 1. The names
 module _ (T : Table) (q : Marks) where

@@ -10,7 +10,7 @@ use Rattle.text.proofs.Tests.{both}
 use Rattle.text.proofs.Lists.{and-both}
 use Rattle.parts.specs.Split.{split, piece, join, led}
 use Rattle.parts.proofs.Join.{Free, AllFree, Some, split-some, split-free, split-join, join-split}
-use Rattle.demands.specs.Strike.{change, rewritten, onlyIf}
+use Rattle.striking.specs.Strike.{change, rewritten, onlyIf}
 
 -- the first is the second with bytes left out
 pub data Sub : Text → Text → Type 0 where

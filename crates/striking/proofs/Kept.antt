@@ -16,8 +16,8 @@ use Rattle.parts.specs.Descent.{part, inField}
 use Rattle.frame.specs.Segments.{name, isHeader, headerField, field, unsplit}
 use Rattle.profile.specs.Table.{Table, Leaf, Row}
 use Rattle.reader.specs.Place.{leafAt, leafOf}
-use Rattle.demands.specs.Strike.{rewritten, hasComponent, hasLeaf, strikeSubcomponent, strikeComponent, strikeRepetition, rowsAt, hasField, leavesAt, strikeField, afterNinth, strikeAfterNinth, strikeHeader, strikeOther, strikeSegment}
-use Rattle.demands.proofs.Shrink.{Sub, sub-self, sub-only, sub-behind, take-front, drop-front, Shrinks, rewritten-sub, piece-rewritten, rewritten-empty}
+use Rattle.striking.specs.Strike.{rewritten, hasComponent, hasLeaf, strikeSubcomponent, strikeComponent, strikeRepetition, rowsAt, hasField, leavesAt, strikeField, afterNinth, strikeAfterNinth, strikeHeader, strikeOther, strikeSegment}
+use Rattle.striking.proofs.Shrink.{Sub, sub-self, sub-only, sub-behind, take-front, drop-front, Shrinks, rewritten-sub, piece-rewritten, rewritten-empty}
 
 -- 1. Of a repetition, the listed leaves stay
 module _ (q : Marks) (ls : List Leaf) where

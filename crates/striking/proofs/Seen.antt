@@ -19,10 +19,10 @@ use Rattle.profile.proofs.Gathered.{RowOk, RuleOk, gathered-all}
 use Rattle.reader.proofs.Filled.{none-filled}
 use Rattle.reader.specs.Place.{leafOf, repetitions}
 use Rattle.reader.specs.View.{Field, entriesOf, filledFrom, namedIn, fieldSeen, segmentSeen}
-use Rattle.demands.specs.Strike.{change, hasLeaf, rowsAt, hasField, leavesAt, strikeField, strikeSegment}
-use Rattle.demands.specs.Fit.{listsComponent, hasRow, namerListed, mayRepeat, rowFit, fit}
-use Rattle.demands.proofs.Shrink.{split-rewritten, count-rewritten, rewritten-empty}
-use Rattle.demands.proofs.Kept.{leaf-kept, unless, strikeIn, in-shrinks, name-struck, field-struck, unsplit-struck, leaf-struck}
+use Rattle.striking.specs.Strike.{change, hasLeaf, rowsAt, hasField, leavesAt, strikeField, strikeSegment}
+use Rattle.striking.specs.Fit.{listsComponent, hasRow, namerListed, mayRepeat, rowFit, fit}
+use Rattle.striking.proofs.Shrink.{split-rewritten, count-rewritten, rewritten-empty}
+use Rattle.striking.proofs.Kept.{leaf-kept, unless, strikeIn, in-shrinks, name-struck, field-struck, unsplit-struck, leaf-struck}
 
 -- 1. Members and tests
 module _ {A : Type 0} where

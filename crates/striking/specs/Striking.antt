@@ -17,7 +17,7 @@ use Rattle.reader.specs.Place.{Place, textAt}
 use Rattle.reader.specs.View.{listedSegments}
 use Rattle.worked.specs.Messages.{message, msh, pid, obr, M, withMSH, withPID, withOBX}
 use Rattle.worked.specs.Worked.{Example, _says_, AllHold, P5, P6}
-use Rattle.demands.specs.Strike.{hasComponent, hasField, leavesAt, isListedPlace, strike}
+use Rattle.striking.specs.Strike.{hasComponent, hasField, leavesAt, isListedPlace, strike}
 
 -- the header's first nine bytes are its name, MSH-1, MSH-2 and a separator
 abbrev pub inFirstNine : Place → Bool

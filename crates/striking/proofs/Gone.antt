@@ -15,10 +15,10 @@ use Rattle.parts.specs.Descent.{Step, part, inField}
 use Rattle.frame.specs.Segments.{name, named, ofName, field, unsplit}
 use Rattle.profile.specs.Table.{Table, Leaf, isListed}
 use Rattle.reader.specs.Place.{leafAt, leafOf}
-use Rattle.demands.specs.Strike.{rewritten, onlyIf, hasComponent, hasLeaf, strikeSubcomponent, strikeComponent, strikeRepetition, hasField, leavesAt, strikeSegment}
-use Rattle.demands.proofs.Shrink.{piece-rewritten}
-use Rattle.demands.proofs.Kept.{subcomponent-shrinks, component-shrinks, strikeIn, in-shrinks, name-struck, field-struck, unsplit-struck}
-use Rattle.demands.proofs.Message.{L, strikes}
+use Rattle.striking.specs.Strike.{rewritten, onlyIf, hasComponent, hasLeaf, strikeSubcomponent, strikeComponent, strikeRepetition, hasField, leavesAt, strikeSegment}
+use Rattle.striking.proofs.Shrink.{piece-rewritten}
+use Rattle.striking.proofs.Kept.{subcomponent-shrinks, component-shrinks, strikeIn, in-shrinks, name-struck, field-struck, unsplit-struck}
+use Rattle.striking.proofs.Message.{L, strikes}
 
 -- 1. Of nothing every part is nothing
 piece-none : (n : ℕ) → piece n [] ≡ []

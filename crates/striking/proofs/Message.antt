@@ -18,11 +18,11 @@ use Rattle.frame.specs.Frame.{allowed, header, endsWithCR, opens, isSegment, fr
 use Rattle.frame.proofs.Frame.{Framed, framed-tests, tests-framed, closed-segments}
 use Rattle.profile.specs.Table.{Table, isListed}
 use Rattle.reader.specs.View.{segmentSeen, view}
-use Rattle.demands.specs.Strike.{rewritten, strikeAfterNinth, strikeSegment, strike}
-use Rattle.demands.specs.Fit.{fit}
-use Rattle.demands.proofs.Shrink.{Sub, done, skip, hold, sub-none, sub-append, sub-free, sub-every, sub-length}
-use Rattle.demands.proofs.Kept.{front-struck, name-struck, segment-sub}
-use Rattle.demands.proofs.Seen.{segment-same}
+use Rattle.striking.specs.Strike.{rewritten, strikeAfterNinth, strikeSegment, strike}
+use Rattle.striking.specs.Fit.{fit}
+use Rattle.striking.proofs.Shrink.{Sub, done, skip, hold, sub-none, sub-append, sub-free, sub-every, sub-length}
+use Rattle.striking.proofs.Kept.{front-struck, name-struck, segment-sub}
+use Rattle.striking.proofs.Seen.{segment-same}
 
 module _ (T : Table) (q : Marks) where
   abbrev pub L : Text → Bool

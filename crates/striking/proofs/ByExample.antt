@@ -7,8 +7,8 @@ use Rattle.profile.specs.Profile.{profile01}
 use Rattle.worked.specs.Worked.{AllHold, P5, P6}
 use Rattle.worked.proofs.Computing.{computing}
 use Rattle.worked.proofs.Examples.{failing, all-hold}
-use Rattle.demands.specs.Strike.{change, rewritten, rowsAt, leavesAt, strikeSegment, strike}
-use Rattle.demands.specs.Striking.{strikingExamples}
+use Rattle.striking.specs.Strike.{change, rewritten, rowsAt, leavesAt, strikeSegment, strike}
+use Rattle.striking.specs.Striking.{strikingExamples}
 
 pub examples-hold : AllHold strikingExamples
 unfolding computing failing strikingExamples change rewritten rowsAt leavesAt strikeSegment strike

@@ -1,0 +1,9 @@
+pub mod ByExample
+pub mod Shrink
+pub mod Kept
+pub mod Seen
+pub mod Message
+pub mod Listed
+pub mod Gone
+pub mod Separators
+pub mod Striking

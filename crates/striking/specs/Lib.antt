@@ -1,0 +1,3 @@
+pub mod Strike
+pub mod Fit
+pub mod Striking
