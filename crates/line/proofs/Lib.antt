@@ -1,3 +1,1 @@
 pub mod Lines
-pub mod HexLines
-pub mod Read

@@ -1,4 +1,4 @@
-// The lines that the desk's programs print, and the places that they are asked for.
+// The lines that the desk's programs print.
 ghost use mathlib.Core.Path.{_≡_};
 ghost use Prim.Native.Nat.{_+_, _≤_};
 ghost use mathlib.Core.List.{_∷_};
@@ -9,13 +9,6 @@ ghost use Rattle.text.specs.Puts.{Puts};
 ghost use Rattle.parts.specs.Split.{led};
 ghost use Rattle.reader.specs.Told.{placeOf, foundOf, verdictOf};
 ghost use Rattle.line.specs.Line.{refusedLine, placeWords, faultLine, deskLine, textLine, lookLine, ended};
-
-mod hex;
-mod place;
-
-pub use hex::hex_lines;
-pub use place::Asked;
-pub use place::asked_number;
 use reader::Fault;
 use reader::Found;
 use reader::Place;

@@ -1,7 +1,7 @@
 // The enquiry desk's look-up: a message on standard input, the place as arguments.
+use asked::Asked;
 use libc::STDIN_FILENO;
 use libc::STDOUT_FILENO;
-use line::Asked;
 use reader::Found;
 use reader::Place;
 
@@ -14,7 +14,7 @@ enum Question {
 fn number_at(i: usize) -> Asked {
     let mut word = io::buffer();
     let n = os::arg(i, &mut word);
-    line::asked_number(&word[..n])
+    asked::asked_number(&word[..n])
 }
 
 // The place that the arguments name: a name of three bytes and five numbers.

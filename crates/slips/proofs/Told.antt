@@ -9,7 +9,7 @@ use Rattle.text.specs.Answer.{Answer, refused, given}
 use Rattle.text.specs.declared.refusal.Refusal.{Refusal}
 use Rattle.text.proofs.Answer.{told-refused}
 use Rattle.line.specs.Line.{ended, refusedLine}
-use Rattle.line.specs.Hex.{hexLines, slipLines}
+use Rattle.hex.specs.Hex.{hexLines, slipLines}
 use Rattle.slip.specs.Slot.{slotSize}
 use Rattle.slip.specs.Book.{bookAfter}
 use Rattle.slip.specs.Told.{done}

@@ -5,10 +5,10 @@ ghost use Rattle.text.specs.Puts.{Puts};
 ghost use Rattle.profile.specs.Profile.{profile01};
 ghost use Rattle.slip.specs.Slot.{slotSize};
 ghost use Rattle.slip.specs.Book.{file};
-ghost use Rattle.line.specs.Hex.{slipLines};
+ghost use Rattle.hex.specs.Hex.{slipLines};
+use asked::Asked;
 use libc::STDIN_FILENO;
 use libc::STDOUT_FILENO;
-use line::Asked;
 use slip::Filed;
 
 // The lines that tell the slip's bytes, as it is filed in a book of one slot, or a refusal.
@@ -19,7 +19,7 @@ fn tell(m: &[u8], group: u64, out: &mut [u8]) -> usize
     let mut book = [0u8; 1024];
     match slip::file(m, group, 0, &mut book) {
         Filed::Refused(r) => line::refused_line(r, out),
-        Filed::Slip => line::hex_lines(&book, out),
+        Filed::Slip => hex::hex_lines(&book, out),
     }
 }
 
@@ -27,7 +27,7 @@ fn tell(m: &[u8], group: u64, out: &mut [u8]) -> usize
 fn asked_group() -> Asked {
     let mut word = io::buffer();
     let n = os::arg(1, &mut word);
-    line::asked_number(&word[..n])
+    asked::asked_number(&word[..n])
 }
 
 fn show(group: u64) {

@@ -1,8 +1,8 @@
-// Reading a number of a place from a program's arguments.
+// The number that a program is asked for, as an argument writes it.
 ghost use Prim.Native.Nat.{_+_, _*_, _-_, _≤_};
 ghost use mathlib.Core.Path.{_≡_};
 ghost use Rattle.text.specs.Bytes.{byte};
-ghost use Rattle.line.specs.Asked.{fitting, asked};
+ghost use Rattle.asked.specs.Asked.{fitting, asked};
 use text::is_digit;
 
 // Every number above 65,535 is no place, so one that does not fit is given as the largest: the answer is the same.

@@ -9,7 +9,7 @@ use lib.ListN.{length, getD, take}
 use Rattle.text.specs.Bytes.{Text}
 use Rattle.text.specs.Puts.{Puts}
 use Rattle.text.proofs.Puts.{puts-none, puts-both}
-use Rattle.line.specs.Hex.{hexDigit, behind, hexByte, hexFrom}
+use Rattle.hex.specs.Hex.{hexDigit, behind, hexByte, hexFrom}
 
 -- one byte more
 from-more : (k : ℕ) (t : Text) (i : ℕ) → i < length t → hexFrom k (take (suc i) t) ≡ hexFrom k (take i t) ++ hexByte (k + i) (getD t i 0)

@@ -11,8 +11,8 @@ use lib.Dec.{leb}
 use borrow.Author.Tests.{leb-true}
 use Rattle.text.specs.Bytes.{Text, pick, byte, digit, empty, every}
 use Rattle.text.proofs.Tests.{both, empty-none, empty-some}
-use Rattle.line.specs.declared.place.Asked.the-variants.{Bad, Number}
-use Rattle.line.specs.Asked.{most, fitting, valueFrom, asked}
+use Rattle.asked.specs.declared.Asked.the-variants.{Bad, Number}
+use Rattle.asked.specs.Asked.{most, fitting, valueFrom, asked}
 
 pub digit-low : (b : ℕ) → digit b ≡ true → byte "0" ≤ b
 digit-low b e = leb-true (byte "0") b (both (leb (byte "0") b) (leb b (byte "9")) e .0)

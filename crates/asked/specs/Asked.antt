@@ -3,8 +3,8 @@ use Prim.Native.Nat.{ℕ, _+_, _*_, _-_, min}
 use mathlib.Core.Bool.{_||_, not}
 use mathlib.Core.List.{[], _∷_}
 use Rattle.text.specs.Bytes.{Text, pick, byte, digit, empty, every}
-use Rattle.line.specs.declared.place.Asked.{Asked}
-use Rattle.line.specs.declared.place.Asked.the-variants.{Bad, Number}
+use Rattle.asked.specs.declared.Asked.{Asked}
+use Rattle.asked.specs.declared.Asked.the-variants.{Bad, Number}
 
 -- the largest number of 64 bits
 abbrev pub most : ℕ

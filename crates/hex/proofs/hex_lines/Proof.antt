@@ -5,11 +5,11 @@ use native.Mathlib.Omega.{arith}
 use lib.ListN.{length, take}
 use lib.Seq.{take-all}
 use Rattle.text.specs.Puts.{Puts}
-use Rattle.line.specs.Hex.{hexFrom}
-use Rattle.line.proofs.HexLines.{hex-none, hex-on}
+use Rattle.hex.specs.Hex.{hexFrom}
+use Rattle.hex.proofs.HexLines.{hex-none, hex-on}
 use borrow.Author.Needs.{needs}
-use Rattle.line.proofs.hex.hex_lines.Statement.{statement}
-use Rattle.line.proofs.hex.hex_lines.Tie as tie
+use Rattle.hex.proofs.hex_lines.Statement.{statement}
+use Rattle.hex.proofs.hex_lines.Tie as tie
 
 abbrev Inv-loop : tie.InvT-loop
 Inv-loop t out₀ at₀ i₀ out at i =

@@ -3,7 +3,7 @@ ghost use mathlib.Core.Path.{_≡_};
 ghost use Prim.Native.Nat.{_*_, _≤_, _<_};
 ghost use lib.ListN.{length};
 ghost use Rattle.text.specs.Puts.{Puts};
-ghost use Rattle.line.specs.Hex.{hexDigit, behind, hexLines};
+ghost use Rattle.hex.specs.Hex.{hexDigit, behind, hexLines};
 use text::put;
 
 fn hex_digit(n: u8) -> u8

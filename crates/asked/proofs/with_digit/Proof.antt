@@ -1,8 +1,8 @@
 -- `with_digit`: written out, though it could be found, so that a refusal names the fact that fails.
 use borrow.Author.Needs.{needs}
 use native.Mathlib.Omega.{arith}
-use Rattle.line.proofs.place.with_digit.Statement.{statement}
-use Rattle.line.proofs.place.with_digit.Tie as tie
+use Rattle.asked.proofs.with_digit.Statement.{statement}
+use Rattle.asked.proofs.with_digit.Tie as tie
 
 -- the number is the largest, or the sum fits
 returns-2 : tie.Need-returns-2

@@ -1,8 +1,8 @@
 -- `gap`: a line end behind each sixteenth byte.
 use Prim.Native.Nat.{_%_}
 use borrow.Author.Tests.{eq-eqb, ne-eqb}
-use Rattle.line.proofs.hex.gap.Statement.{statement}
-use Rattle.line.proofs.hex.gap.Tie as tie
+use Rattle.hex.proofs.gap.Statement.{statement}
+use Rattle.hex.proofs.gap.Tie as tie
 
 returns : tie.Need-returns
 returns c = rw (eq-eqb (c .before .args .i % 16) 15 (c .if1 .taken))

@@ -4,9 +4,9 @@ use borrow.Author.Tests.{not-true, not-false}
 use Prim.Native.Nat.{_-_}
 use mathlib.Core.Path.{sym, _∙_}
 use lib.ListN.{length}
-use Rattle.line.proofs.Read.{digit-low, Read, read-first, read-on, read-bad, read-all, read-empty}
-use Rattle.line.proofs.place.asked_number.Statement.{statement}
-use Rattle.line.proofs.place.asked_number.Tie as tie
+use Rattle.asked.proofs.Read.{digit-low, Read, read-first, read-on, read-bad, read-all, read-empty}
+use Rattle.asked.proofs.asked_number.Statement.{statement}
+use Rattle.asked.proofs.asked_number.Tie as tie
 
 abbrev Inv-loop : tie.InvT-loop
 Inv-loop t n₀ i₀ n i = Read t n i
