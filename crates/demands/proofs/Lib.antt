@@ -1,4 +1,3 @@
-pub mod Contracts
 pub mod Judged
 pub mod Demand1
 pub mod Counts

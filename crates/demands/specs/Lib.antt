@@ -1,7 +1,6 @@
 pub use Rattle.striking.specs.Strike
 pub use Rattle.striking.specs.Fit
 pub use Rattle.striking.specs.Striking
-pub mod Contracts
 pub mod Demand1
 pub mod Idle
 pub mod Demand2

@@ -14,7 +14,7 @@ use denote.Triple.Entry.{Args, Res}
 use denote.Triple.Clauses.{AtExit}
 use Rattle.reader.proofs.look_up as look-up
 use Rattle.book.proofs.read_slip as read-slip
-use Rattle.demands.specs.Contracts.{lookUpPromise, readSlipPromise}
+use Rattle.called.specs.Contracts.{lookUpPromise, readSlipPromise}
 
 module _ {M : Type 1} (𝓤 : URA M) (H : Heap 𝓤) (A : Atoms 𝓤) (mem : Memory → SProp 𝓤) (run : Routine → Fun 𝓤) (κs : Lfts 1) where
   open Connectives (connectives 𝓤) using (⌜_⌝, ⊤ₛ)
