@@ -1,3 +1,2 @@
 pub use Rattle.numbers.specs.Told
 pub mod Promise
-pub mod Inner

@@ -1,17 +1,14 @@
 // The six entries for callers of C and Rust: plain numbers and slices, no enum. Nothing is asked of what is handed over.
 ghost use Rattle.profile.specs.Profile.{profile01};
 ghost use Rattle.cabi.specs.Promise.{JudgeTells, LookUpTells, ResolveTells, ReplyTells, FileTells, ReadTells};
-
-mod place;
-
 use book::find_value;
 use escape::resolve;
+use numbers::place_asked;
 use numbers::tell_filed;
 use numbers::tell_found;
 use numbers::tell_value;
 use numbers::tell_verdict;
 use numbers::tell_written;
-use place::place_asked;
 use reader::find;
 use reader::judge;
 use slip::file;

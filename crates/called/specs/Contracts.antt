@@ -1,4 +1,4 @@
--- WHAT THE DEMANDS ARE ABOUT, of the two entries that hand out a part of what they were lent. (src/entries.rt has the other four.) Nothing is asked of
+-- WHAT THE DEMANDS ARE ABOUT, of the two entries that hand out a part of what they were lent. (src/lib.rt has the other four.) Nothing is asked of
 -- the caller, and this is promised: the definition's answer, and that very part of the lent message or book.
 use Prim.Native.Nat.{ℕ}
 use denote.Ref.{RefT}

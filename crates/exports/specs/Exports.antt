@@ -4,7 +4,7 @@
 -- buffer, the book and `out` as they were; that ten zeros mean accepted and any other first number is the reason, 1 to 12; that a filed slip changes its
 -- own slot and nothing else; and that a newer sender's additions alter nothing.
 --
--- An exported function and its entry are made of the same definition: `judge` answers what `ithwyral_judge` tells. The crate `called` has the six functions
+-- An exported function and its entry are made of the same definition: `judge` answers what `ithwyral_judge` tells. The crate `linked` has the six functions
 -- with the promises that are meant here (cabi).
 use mathlib.Core.Path.{_≡_}
 use Prim.Native.Nat.{ℕ, _≤_}

@@ -1,1 +1,1 @@
-// The demands once more, of the exported functions: no code. They are called in the crate `called`.
+// The demands once more, of the exported functions: no code. They are called in the crate `linked`.

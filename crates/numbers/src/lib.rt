@@ -1,4 +1,4 @@
-// What is told of each answer: the number returned, and the numbers in the lent list.
+// Numbers for callers of C and Rust: what is told of each answer, by the number returned and the numbers in the lent list; and the place asked for.
 ghost use mathlib.Core.Path.{_≡_};
 ghost use Rattle.text.specs.Answer.{writtenOf};
 ghost use Rattle.reader.specs.Fault.{fault};
@@ -6,7 +6,11 @@ ghost use Rattle.reader.specs.Told.{placeOf, verdictOf, foundOf};
 ghost use Rattle.slip.specs.Told.{filedOf};
 ghost use Rattle.book.specs.Told.{valueOf};
 ghost use Rattle.numbers.specs.Told.{status, Tells, verdictNumbers, foundNumbers, sizeNumbers, partNumbers};
+
+mod place;
+
 use book::Value;
+pub use place::place_asked;
 use reader::Fault;
 use reader::Found;
 use reader::Verdict;

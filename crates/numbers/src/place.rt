@@ -2,8 +2,8 @@
 ghost use mathlib.Core.Path.{_≡_};
 ghost use mathlib.Core.List.{[], _∷_};
 ghost use Rattle.reader.specs.Told.{placeOf};
 ghost use Rattle.numbers.specs.Told.{asked};
-ghost use Rattle.cabi.specs.Inner.{SameLookUp};
+ghost use Rattle.numbers.specs.Inner.{SameLookUp};
 use reader::Place;
 
 // The place of three bytes and five numbers.

@@ -3,11 +3,11 @@ use mathlib.Core.Path.{sym, ap, _∙_}
 use Rattle.text.specs.Bytes.{Text}
 use Rattle.reader.specs.Place.{Place}
 use Rattle.reader.specs.LookUp.{lookUp}
 use Rattle.numbers.specs.Told.{asked}
-use Rattle.cabi.proofs.Asked.{three, zeros-same}
+use Rattle.numbers.proofs.Asked.{three, zeros-same}
 use borrow.Author.Needs.{needs}
-use Rattle.cabi.proofs.place.place_asked.Statement.{statement}
-use Rattle.cabi.proofs.place.place_asked.Tie as tie
+use Rattle.numbers.proofs.place.place_asked.Statement.{statement}
+use Rattle.numbers.proofs.place.place_asked.Tie as tie
 
 returns : tie.Need-returns
 returns c m =

@@ -13,8 +13,8 @@ use Rattle.frame.specs.Frame.{frameTests}
 use Rattle.frame.specs.Segments.{isName}
 use Rattle.reader.specs.Place.{Place, isPlace}
 use Rattle.reader.specs.LookUp.{lookUp, found}
 use Rattle.numbers.specs.Told.{asked}
-use Rattle.cabi.specs.Inner.{SameLookUp}
+use Rattle.numbers.specs.Inner.{SameLookUp}
 
 -- a name of three bytes is those three
 pub three : (t : Text) → length t ≡ 3 → t ≡ getD t 0 0 ∷ getD t 1 0 ∷ getD t 2 0 ∷ []
