@@ -58,6 +58,10 @@ found-inside m p code-found.the-variants.Empty h = (omega arith, omega arith)
 found-inside m p (code-found.the-variants.Text a e) h =
     text-inside m p a e (first-asked (lookUpTests m p) (found m p) (Text-from-to a e) h)
 
+-- what is shown of a leaf that is seen
+pub shown-as : (f : code-found.Found) (l t : Found) → foundOf f ≡ given l → l ≡ t → foundOf f ≡ given t
+shown-as f l t h k = h ∙ ap given k
+
 -- along which case of the answer it is
 pub inside-as : (f g : code-found.Found) (k : ℕ) → f ≡ g → Inside f k → Inside g k
 inside-as f g k e w = subst (λ (x : code-found.Found). Inside x k) e w

@@ -1,8 +1,7 @@
 -- `find_leaf`: the occurrence, then the leaf in it.
-use mathlib.Core.Path.{sym, ap, _∙_}
-use Rattle.text.specs.Answer.{given}
+use mathlib.Core.Path.{sym}
 use Rattle.reader.specs.Told.{foundOf}
-use Rattle.reader.proofs.LookUp.{looked-missing, looked-leaf, looked-inside}
+use Rattle.reader.proofs.LookUp.{looked-missing, looked-leaf, looked-inside, shown-as}
 use borrow.Author.Needs.{needs}
 use Rattle.reader.proofs.search.find_leaf.Statement.{statement}
 use Rattle.reader.proofs.search.find_leaf.Tie as tie
@@ -28,7 +27,7 @@ returns-2 c =
     let o = k .before .before in
     let b = o .before .before in
     looked-leaf (b .args .m .now) (b .args .p) (o .occurrence .result) _ _ (l .before .marks-of .result) (foundOf (c .shown .result))
-    (o .occurrence .ensures) (sym (k .start .given .1)) (l .before .marks-of .ensures) (c .shown .ensures ∙ ap given (l .leaf .ensures))
+    (o .occurrence .ensures) (sym (k .start .given .1)) (l .before .marks-of .ensures) (shown-as (c .shown .result) _ _ (c .shown .ensures) (l .leaf .ensures))
 
 pub find-leaf-spec : {M : Type 1} → statement M
 find-leaf-spec =

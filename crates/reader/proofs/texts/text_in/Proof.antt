@@ -1,6 +1,6 @@
 -- `text_in`: the leaf of the segment, or no bytes where it is missing.
-use mathlib.Core.Path.{refl, ap, _∙_}
-use Rattle.text.specs.Answer.{given}
+use mathlib.Core.Path.{refl}
+use Rattle.reader.proofs.LookUp.{shown-as}
 use Rattle.reader.proofs.Copied.{stood-inside, taken-inside, taken-leaf, taken-none}
 use borrow.Author.Needs.{needs}
 use Rattle.reader.proofs.texts.text_in.Statement.{statement}
@@ -18,7 +18,7 @@ text-of-requires c κs =
     let l = c .before in
     let k = l .before .before .before in
     let b = k .before .before .before in
-    taken-inside (b .args .m .now) (b .args .s) _ _ (k .s .given .1) (b .pre .0) _ _ _ (c .shown .result) (c .shown .ensures ∙ ap given (l .leaf .ensures))
+    taken-inside (b .args .m .now) (b .args .s) _ _ (k .s .given .1) (b .pre .0) _ _ _ (c .shown .result) (shown-as (c .shown .result) _ _ (c .shown .ensures) (l .leaf .ensures))
 
 returns : tie.Need-returns
 returns c =
@@ -31,7 +31,7 @@ returns-2 c =
     let l = f .before in
     let k = l .before .before .before in
     let b = k .before .before .before in
-    taken-leaf (b .args .m .now) (b .args .s) _ _ (k .s .given .1) (b .pre .0) _ _ _ (f .shown .result) _ (l .before .marks-of .ensures) (f .shown .ensures ∙ ap given (l .leaf .ensures))
+    taken-leaf (b .args .m .now) (b .args .s) _ _ (k .s .given .1) (b .pre .0) _ _ _ (f .shown .result) _ (l .before .marks-of .ensures) (shown-as (f .shown .result) _ _ (f .shown .ensures) (l .leaf .ensures))
     (c .text-of .ensures .bytes)
 
 pub text-in-spec : {M : Type 1} → statement M
