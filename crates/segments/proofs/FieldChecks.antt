@@ -1,6 +1,6 @@
 -- The first broken check of a field, by its three kinds.
-use mathlib.Core.Path.{_≡_, refl, sym, ap, subst, _∙_}
-use Prim.Native.Nat.{ℕ, zero, suc, _+_, _-_, _≤_, _<_}
+use mathlib.Core.Path.{_≡_, refl, sym, ap, _∙_}
+use Prim.Native.Nat.{ℕ, _+_, _≤_}
 use native.Mathlib.Numerals.{add-one}
 use native.Mathlib.Omega.{arith}
 use mathlib.Core.Bool.{Bool, true, false, not, _&&_}
@@ -11,7 +11,7 @@ use borrow.Author.Tests.{le-ltb, not-true, not-false}
 use Rattle.text.specs.Bytes.{Text, pick, some}
 use Rattle.text.specs.declared.marks.Marks.{Marks}
 use Rattle.frame.specs.Segments.{field, unsplit}
-use Rattle.profile.specs.Table.{Leaf, C, Rule}
+use Rattle.profile.specs.Table.{Rule}
 use Rattle.profile.specs.declared.rows.Rows.{Rows}
 use Rattle.profile.specs.Numbers.{usageOf, tableOf}
 use Rattle.profile.specs.Inner.{Lists, leavesAt, ruleAt}
@@ -20,23 +20,13 @@ use Rattle.segments.specs.declared.Finding.{Finding}
 use Rattle.checks.specs.View.{Repetition, Field, filledFrom, fieldSeen, segmentSeen}
 use Rattle.checks.specs.Fault.{Verdict, accepted, firstFilled, isRequired, repetitionChecks, fieldChecks, firstBroken}
 use Rattle.listing.specs.Listing.{HasNumber}
-use Rattle.segments.specs.Judged.{toldAt, atRepetition, ReadsFieldAt, leavesOfField}
+use Rattle.segments.specs.Judged.{toldAt, atRepetition, ReadsFieldAt}
+use Rattle.usage.specs.Listed.{leavesOfField}
 use Rattle.fields.specs.Judged.{repetitionsIn, filledIn, ReadsField}
-use Rattle.segments.proofs.FieldText.{field-split, seen-surplus, seen-filled, seen-first}
+use Rattle.usage.proofs.FieldSeen as seen
+use Rattle.usage.proofs.FieldText.{seen-surplus, seen-filled}
 
--- whether a field of that usage is required: optional and required ones, and those that another field makes so
-pub usage-plain : (u : ℕ) (vs : List Field) → u < 2 → eqb u 1 ≡ isRequired (usageOf u) vs
-usage-plain zero vs l = refl
-usage-plain (suc zero) vs l = refl
-usage-plain (suc (suc f)) vs l = absurd (omega arith)
-
-pub usage-other : (u : ℕ) (vs : List Field) (r : Bool) → 2 ≤ u → r ≡ isRequired (C (u - 2)) vs → r ≡ isRequired (usageOf u) vs
-usage-other zero vs r l e = absurd (omega arith)
-usage-other (suc zero) vs r l e = absurd (omega arith)
-usage-other (suc (suc f)) vs r l e =
-    let z : suc (suc f) - 2 ≡ f = omega arith in
-    rw z at e
-
+-- an optional field is not required
 pub usage-none : (u : ℕ) (vs : List Field) → u ≡ 0 → false ≡ isRequired (usageOf u) vs
 usage-none u vs e = rw e
 
@@ -72,7 +62,7 @@ module _ (q : Marks) (t : List ℕ) (s : Text) (k at end : ℕ) (numbered : HasN
   vs = segmentSeen (tableOf t) q s .fields
 
   cut : unsplit s (u .field) ≡ false
-  cut = field-split s k numbered (u .field) low
+  cut = seen.cut q t s k at end numbered low
 
   -- of no bytes it is missing or breaks nothing
   module _ (x : Text) (none : x ≡ []) (is : x ≡ field q s (getD t (at + 1) 0)) where
@@ -103,13 +93,13 @@ module _ (q : Marks) (t : List ℕ) (s : Text) (k at end : ℕ) (numbered : HasN
   module _ (x : Text) (is : x ≡ field q s (getD t (at + 1) 0))
       (rows : Rows) (lists : Lists t rows (leavesOfField q t s at end)) (a : ReadField) (by-rows : ReadsField q (leavesAt t rows) (getD t (at + 5) 0) x a) where
     reads : ReadsField q (leavesOfField q t s at end) (u .repetitions) x a
-    reads = subst (λ (ls : List Leaf). ReadsField q ls (u .repetitions) x a) (lists .leaves) by-rows
+    reads = seen.reads q t s k at end numbered low x is rows lists a by-rows
 
     surplus-is : a .surplus ≡ v .surplus
-    surplus-is = reads .surplus ∙ sym (seen-surplus (tableOf t) q s u x is cut)
+    surplus-is = seen.surplus-is q t s k at end numbered low x is rows lists a by-rows
 
-    pub filled-is : a .filled ≡ firstFilled v
-    filled-is = reads .filled ∙ sym (seen-first (tableOf t) q s u x is cut)
+    filled-is : a .filled ≡ firstFilled v
+    filled-is = seen.filled-is q t s k at end numbered low x is rows lists a by-rows
 
     pub judged-surplus : a .surplus ≡ true
         → ReadsFieldAt q t s at end (atRepetition 4 (getD t (at + 1) 0) (getD t (at + 5) 0 + 1))

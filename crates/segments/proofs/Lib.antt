@@ -1,5 +1,2 @@
-pub mod FieldText
-pub mod FieldLeaves
 pub mod FieldChecks
-pub mod SegmentFields
 pub mod SegmentReading

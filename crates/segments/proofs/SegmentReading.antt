@@ -23,9 +23,9 @@ use Rattle.leaves.specs.Judged.{told}
 use Rattle.listing.specs.Listing.{HasNumber}
 use Rattle.segments.specs.Judged.{toldAt, atRepetition, ReadsFieldAt, ReadsSegment}
 use Rattle.leaves.proofs.Breaks.{orElse, broken-append}
-use Rattle.segments.proofs.FieldText.{before-field, field-at}
+use Rattle.usage.proofs.FieldText.{before-field, field-at}
 use Rattle.segments.proofs.FieldChecks.{none-missing, none-passes}
-use Rattle.segments.proofs.SegmentFields.{Left, seenFrom, left-first, seen-all, on-number, on-later, left-on, seen-on, seen-none}
+use Rattle.usage.proofs.SegmentFields.{Left, seenFrom, left-first, seen-all, on-number, on-later, left-on, seen-on, seen-none}
 
 -- a segment's fields, and the first broken check of some of them
 abbrev allOf : List ℕ → Marks → Text → List Field

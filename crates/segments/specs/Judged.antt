@@ -4,14 +4,15 @@ use mathlib.Core.Path.{_≡_}
 use mathlib.Core.List.{List, flatMap}
 use Rattle.text.specs.Bytes.{Text}
 use Rattle.text.specs.declared.marks.Marks.{Marks}
-use Rattle.profile.specs.Table.{Leaf, Table, leavesOf}
+use Rattle.profile.specs.Table.{Table}
 use Rattle.profile.specs.Numbers.{tableOf}
 use Rattle.profile.specs.Inner.{ruleAt}
 use Rattle.segments.specs.declared.Finding.{Finding}
 use Rattle.checks.specs.Place.{place}
-use Rattle.checks.specs.View.{Field, namedIn, fieldSeen, segmentSeen}
+use Rattle.checks.specs.View.{fieldSeen, segmentSeen}
 use Rattle.checks.specs.Fault.{Verdict, fieldChecks, firstBroken}
 use Rattle.leaves.specs.Judged.{told}
+use Rattle.usage.specs.Listed.{fieldsSeen}
 
 -- A SEGMENT: the first broken check of its listed fields
 abbrev pub toldAt : Text → ℕ → Finding → Verdict
@@ -20,16 +21,9 @@ toldAt n o r = told (place n o (r .field) (r .repetition) (r .component) (r .sub
 abbrev pub atRepetition : ℕ → ℕ → ℕ → Finding
 atRepetition n f r = record { reason = n; field = f; repetition = r; component = 0; subcomponent = 0 }
 
-abbrev pub fieldsSeen : List ℕ → Marks → Text → List Field
-fieldsSeen t q s = segmentSeen (tableOf t) q s .fields
-
 abbrev pub ReadsSegment : Marks → Table → Text → Finding → Type 0
 ReadsSegment q T s r =
     (n : Text) (o : ℕ) → toldAt n o r ≡ firstBroken (flatMap (fieldChecks q n o (segmentSeen T q s .fields)) (segmentSeen T q s .fields))
-
--- the leaves that a field with those rows lists
-abbrev pub leavesOfField : Marks → List ℕ → Text → ℕ → ℕ → List Leaf
-leavesOfField q t s at end = leavesOf (tableOf t) (namedIn q s) (ruleAt t at end)
 
 -- A FIELD OF A SEGMENT: its first broken check
 abbrev pub ReadsFieldAt : Marks → List ℕ → Text → ℕ → ℕ → Finding → Type 0

@@ -1,21 +1,15 @@
 // A segment's listed fields. Inner: the callers hold the table's rule, and that the segment has the name of its number.
 ghost use mathlib.Core.Path.{_≡_};
-ghost use mathlib.Core.Bool.{true, false};
-ghost use Prim.Native.Nat.{_+_, _≤_, min};
-ghost use lib.ListN.{length, getD};
-ghost use Rattle.text.specs.Bytes.{pick, within};
-ghost use lib.Dec.{eqb};
-ghost use Rattle.parts.specs.Descent.{part, inField};
+ghost use mathlib.Core.Bool.{true};
+ghost use Prim.Native.Nat.{_+_, _≤_};
+ghost use lib.ListN.{getD};
 ghost use Rattle.parts.specs.Span.{IsPiece};
 ghost use Rattle.frame.specs.Segments.{field};
-ghost use Rattle.profile.specs.Inner.{Lists, IsField, leavesNamed, ruleAt};
-ghost use Rattle.profile.specs.Table.{C};
-ghost use Rattle.profile.specs.Numbers.{tableOf, usageOf};
+ghost use Rattle.profile.specs.Inner.{IsField};
+ghost use Rattle.profile.specs.Numbers.{tableOf};
 ghost use Rattle.profile.specs.Order.{Sound};
-ghost use Rattle.checks.specs.Fault.{firstFilled, isRequired};
-ghost use Rattle.checks.specs.View.{fieldSeen, namedIn};
 ghost use Rattle.listing.specs.Listing.{HasNumber};
-ghost use Rattle.segments.specs.Judged.{ReadsSegment, fieldsSeen, leavesOfField, ReadsFieldAt, atRepetition};
+ghost use Rattle.segments.specs.Judged.{ReadsSegment, ReadsFieldAt, atRepetition};
 ghost use Rattle.fields.specs.Judged.{isFlat};
 use fields::flat_passes;
 use fields::is_flat;
@@ -24,12 +18,14 @@ use parts::Cursor;
 use parts::advance;
 use parts::advance_far;
 use parts::first_piece;
-use parts::piece_end;
 use profile::Rows;
 use profile::field_end;
 use profile::rows_under;
-use profile::type_rows;
 use text::Marks;
+use usage::fields_before;
+use usage::fields_start;
+use usage::is_required;
+use usage::leaf_rows;
 
 // The reason of a segment's first broken check, 0 where there is none, and the place of it in the segment.
 pub struct Finding {
@@ -38,127 +34,6 @@ pub struct Finding {
     pub repetition: u64,
     pub component: u64,
     pub subcomponent: u64,
-}
-
-// Where a segment's fields begin: the header's third behind its ninth byte, any other's first behind its name and one
-// separator.
-fn fields_start(s: &[u8], k: u16) -> usize
-    ensures { λ r. ⌜ r ≡ min (pick (eqb k 1) 9 4) (length (now (s .entry))) ⌝ }
-{
-    let mut start = 4;
-    if k == 1 {
-        start = 9;
-    }
-    if s.len() < start {
-        return s.len();
-    }
-    start
-}
-
-// How many fields stand before those: MSH-1 and MSH-2 are the header's separators.
-fn fields_before(k: u16) -> u64
-    ensures { λ r. ⌜ r ≡ pick (eqb k 1) 2 0 ⌝ }
-{
-    if k == 1 {
-        return 2;
-    }
-    0
-}
-
-// The text of the field with that number.
-fn field_text<'a>(s: &'a [u8], q: Marks, k: u16, number: u64) -> &'a [u8]
-    requires { ⌜ HasNumber (now s) k × (pick (eqb k 1) 3 1 ≤ number) ⌝ }
-    ensures { λ r. ⌜ r .now ≡ field q (now (s .entry)) number ⌝ }
-{
-    let skip = fields_start(s, k);
-    let fields = &s[skip..];
-    let before = fields_before(k);
-    let p = advance(
-        fields,
-        q.field,
-        first_piece(fields, q.field),
-        number - before,
-    );
-    let from = p.start;
-    let to = p.end;
-    &fields[from..to]
-}
-
-// Where the first leaf of a field ends: the first subcomponent of the first component of its first repetition.
-fn first_leaf(x: &[u8], q: Marks) -> usize
-    ensures { λ r. ⌜ r ≤ length (now (x .entry)) ⌝ }
-    ensures { λ r. ⌜ within 0 r (now (x .entry)) ≡ part false (inField q 1 1 1) (now (x .entry)) ⌝ }
-{
-    let a = piece_end(x, 0, q.repetition);
-    let b = piece_end(&x[0..a], 0, q.component);
-    piece_end(&x[0..b], 0, q.subcomponent)
-}
-
-// The rows of the type that the field with that number names.
-fn named_rows(s: &[u8], q: Marks, t: &[u16], k: u16, number: u64) -> Rows
-    requires { ⌜ Sound (now t) × HasNumber (now s) k ⌝ }
-    requires { ⌜ pick (eqb k 1) 3 1 ≤ number ⌝ }
-    ensures { λ r. ⌜ Lists (now (t .entry)) r (leavesNamed (now (t .entry)) (namedIn q (now (s .entry)) number)) ⌝ }
-{
-    let x = field_text(s, q, k, number);
-    let to = first_leaf(x, q);
-    type_rows(t, &x[0..to])
-}
-
-// The rows of the leaves that a field lists: its own, from `at` up to `end`, or those of the type that another one names.
-fn leaf_rows(s: &[u8], q: Marks, t: &[u16], k: u16, at: usize, end: usize) -> Rows
-    requires { ⌜ Sound (now t) × HasNumber (now s) k ⌝ }
-    requires { ⌜ IsField (now t) k at end ⌝ }
-    ensures { λ r. ⌜ Lists (now (t .entry)) r (leavesOfField q (now (t .entry)) (now (s .entry)) at end) ⌝ }
-{
-    let named = t[at + 6];
-    if named < 10 {
-        return Rows { start: at, end };
-    }
-    named_rows(s, q, t, k, (named - 10) as u64)
-}
-
-// Whether the first repetition of the field with the rows from `at` up to `end` is filled.
-fn starts_filled(s: &[u8], q: Marks, t: &[u16], k: u16, at: usize, end: usize) -> bool
-    requires { ⌜ Sound (now t) × HasNumber (now s) k ⌝ }
-    requires { ⌜ IsField (now t) k at end ⌝ }
-    ensures { λ r. ⌜ r ≡ firstFilled (fieldSeen (tableOf (now (t .entry))) q (now (s .entry)) (ruleAt (now (t .entry)) at end)) ⌝ }
-{
-    let x = field_text(s, q, k, t[at + 1] as u64);
-    let rows = leaf_rows(s, q, t, k, at, end);
-    let r = read_field(x, q, t, rows, t[at + 5] as u64);
-    r.filled
-}
-
-// Whether the first repetition of the listed field with that number is filled.
-fn is_filled(s: &[u8], q: Marks, t: &[u16], k: u16, number: u16) -> bool
-    requires { ⌜ Sound (now t) × HasNumber (now s) k ⌝ }
-    ensures { λ r. ⌜ r ≡ isRequired (C number) (fieldsSeen (now (t .entry)) q (now (s .entry))) ⌝ }
-{
-    let rows = rows_under(t, k);
-    let last = rows.end;
-    let mut at = rows.start;
-    while 11 <= last - at {
-        let end = field_end(t, at, last);
-        if t[at + 1] == number {
-            if starts_filled(s, q, t, k, at, end) {
-                return true;
-            }
-        }
-        at = end;
-    }
-    false
-}
-
-// Whether a field of that usage must be there.
-fn is_required(s: &[u8], q: Marks, t: &[u16], k: u16, usage: u16) -> bool
-    requires { ⌜ Sound (now t) × HasNumber (now s) k ⌝ }
-    ensures { λ r. ⌜ r ≡ isRequired (usageOf usage) (fieldsSeen (now (t .entry)) q (now (s .entry))) ⌝ }
-{
-    if usage < 2 {
-        return usage == 1;
-    }
-    is_filled(s, q, t, k, usage - 2)
 }
 
 // A finding at a repetition of a field; nothing is broken where the reason is 0.

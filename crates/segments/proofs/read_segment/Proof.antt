@@ -11,10 +11,10 @@ use Rattle.parts.proofs.Moving.{cursor-inside}
 use Rattle.profile.proofs.Numbered.{named-number}
 use Rattle.profile.specs.Numbers.{tableOf}
 use Rattle.checks.specs.View.{segmentSeen}
-use Rattle.segments.proofs.FieldText.{field-at}
+use Rattle.usage.proofs.FieldText.{field-at}
 use Rattle.fields.proofs.FlatField.{flat-within}
 use Rattle.segments.proofs.FieldChecks.{usage-none}
-use Rattle.segments.proofs.SegmentFields.{on-bounds, on-field, on-number}
+use Rattle.usage.proofs.SegmentFields.{on-bounds, on-field, on-number}
 use Rattle.segments.proofs.SegmentReading.{Reading, reading-first, low-number, reading-found, reading-on, none-found, none-on, reading-none}
 use Rattle.segments.proofs.read_segment.Statement.{statement}
 use Rattle.segments.proofs.read_segment.Tie as tie

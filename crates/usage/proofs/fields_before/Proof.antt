@@ -1,7 +1,7 @@
 -- `fields_before`: two before the header's, none before any other's.
 use borrow.Author.Tests.{eq-eqb, ne-eqb}
-use Rattle.segments.proofs.fields_before.Statement.{statement}
-use Rattle.segments.proofs.fields_before.Tie as tie
+use Rattle.usage.proofs.fields_before.Statement.{statement}
+use Rattle.usage.proofs.fields_before.Tie as tie
 
 returns : tie.Need-returns
 returns c = rw (eq-eqb (c .before .args .k) 1 (c .if1 .taken))

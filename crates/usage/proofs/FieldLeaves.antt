@@ -22,8 +22,8 @@ use Rattle.profile.proofs.OneField.{field-namer, leaves-plain, leaves-named}
 use Rattle.checks.specs.Place.{leafAt}
 use Rattle.checks.specs.View.{namedIn}
 use Rattle.listing.specs.Listing.{HasNumber}
-use Rattle.segments.specs.Judged.{leavesOfField}
-use Rattle.segments.proofs.FieldText.{field-split}
+use Rattle.usage.specs.Listed.{leavesOfField}
+use Rattle.usage.proofs.FieldText.{field-split}
 
 -- the first piece of a text, told by its end
 module _ (sep : ℕ) (x : Text) (e : ℕ) (ends : e ≡ 0 + reach sep (drop 0 x)) where

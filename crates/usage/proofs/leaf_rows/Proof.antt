@@ -2,9 +2,9 @@
 use Prim.Native.Nat.{_+_}
 use native.Mathlib.Omega.{arith}
 use borrow.Author.Needs.{needs}
-use Rattle.segments.proofs.FieldLeaves.{lists-own, named-from, lists-named}
-use Rattle.segments.proofs.leaf_rows.Statement.{statement}
-use Rattle.segments.proofs.leaf_rows.Tie as tie
+use Rattle.usage.proofs.FieldLeaves.{lists-own, named-from, lists-named}
+use Rattle.usage.proofs.leaf_rows.Statement.{statement}
+use Rattle.usage.proofs.leaf_rows.Tie as tie
 
 returns : tie.Need-returns
 returns c =

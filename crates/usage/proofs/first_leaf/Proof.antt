@@ -1,8 +1,8 @@
 -- `first_leaf`: the first piece of the first piece of the first.
 use borrow.Author.Needs.{needs}
-use Rattle.segments.proofs.FieldLeaves.{first-inside, second-inside, leaf-inside, leaf-first}
-use Rattle.segments.proofs.first_leaf.Statement.{statement}
-use Rattle.segments.proofs.first_leaf.Tie as tie
+use Rattle.usage.proofs.FieldLeaves.{first-inside, second-inside, leaf-inside, leaf-first}
+use Rattle.usage.proofs.first_leaf.Statement.{statement}
+use Rattle.usage.proofs.first_leaf.Tie as tie
 
 part-piece-end-end : tie.Need-part-piece-end-end
 part-piece-end-end c =

@@ -4,9 +4,9 @@ use native.Mathlib.Omega.{arith}
 use borrow.Author.Needs.{needs}
 use Rattle.frame.specs.Segments.{name}
 use Rattle.profile.proofs.Numbered.{named-number}
-use Rattle.segments.proofs.SegmentFields.{on-bounds, on-field, Seeks, seeks-first, seeks-found, seeks-empty, seeks-other, seeks-none}
-use Rattle.segments.proofs.is_filled.Statement.{statement}
-use Rattle.segments.proofs.is_filled.Tie as tie
+use Rattle.usage.proofs.SegmentFields.{on-bounds, on-field, Seeks, seeks-first, seeks-found, seeks-empty, seeks-other, seeks-none}
+use Rattle.usage.proofs.is_filled.Statement.{statement}
+use Rattle.usage.proofs.is_filled.Tie as tie
 
 abbrev Inv-loop : tie.InvT-loop
 Inv-loop s q t k number last at₀ at = Seeks t q s k number at last

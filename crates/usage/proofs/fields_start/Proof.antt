@@ -2,8 +2,8 @@
 use mathlib.Core.Logic.{⊎-elim}
 use native.Mathlib.Omega.{arith}
 use borrow.Author.Tests.{eq-eqb, ne-eqb}
-use Rattle.segments.proofs.fields_start.Statement.{statement}
-use Rattle.segments.proofs.fields_start.Tie as tie
+use Rattle.usage.proofs.fields_start.Statement.{statement}
+use Rattle.usage.proofs.fields_start.Tie as tie
 
 returns : tie.Need-returns
 returns c =

@@ -3,11 +3,11 @@ use Prim.Native.Nat.{_+_}
 use native.Mathlib.Omega.{arith}
 use borrow.Author.Needs.{needs}
 use Rattle.profile.proofs.OneField.{field-low, field-most}
-use Rattle.segments.specs.Judged.{leavesOfField}
-use Rattle.segments.proofs.FieldLeaves.{lists-itself}
-use Rattle.segments.proofs.FieldChecks.{filled-is}
-use Rattle.segments.proofs.starts_filled.Statement.{statement}
-use Rattle.segments.proofs.starts_filled.Tie as tie
+use Rattle.usage.specs.Listed.{leavesOfField}
+use Rattle.usage.proofs.FieldLeaves.{lists-itself}
+use Rattle.usage.proofs.FieldSeen.{filled-is}
+use Rattle.usage.proofs.starts_filled.Statement.{statement}
+use Rattle.usage.proofs.starts_filled.Tie as tie
 
 cast-field-text : tie.Need-cast-field-text
 cast-field-text c = omega (arith, c .shared-slice-known3 .given (c .before .before .before .args .at + 1))

@@ -1,8 +1,8 @@
 -- `named_rows`: the rows of the type that the field's first leaf names.
 use borrow.Author.Needs.{needs}
-use Rattle.segments.proofs.FieldLeaves.{lists-type}
-use Rattle.segments.proofs.named_rows.Statement.{statement}
-use Rattle.segments.proofs.named_rows.Tie as tie
+use Rattle.usage.proofs.FieldLeaves.{lists-type}
+use Rattle.usage.proofs.named_rows.Statement.{statement}
+use Rattle.usage.proofs.named_rows.Tie as tie
 
 returns : tie.Need-returns
 returns c =

@@ -4,9 +4,9 @@ use lib.ListN.{length}
 use borrow.Author.Needs.{needs}
 use Rattle.text.specs.Bytes.{within}
 use Rattle.parts.proofs.Moving.{cursor-inside}
-use Rattle.segments.proofs.FieldText.{before-field, field-at}
-use Rattle.segments.proofs.field_text.Statement.{statement}
-use Rattle.segments.proofs.field_text.Tie as tie
+use Rattle.usage.proofs.FieldText.{before-field, field-at}
+use Rattle.usage.proofs.field_text.Statement.{statement}
+use Rattle.usage.proofs.field_text.Tie as tie
 
 sub-advance : tie.Need-sub-advance
 sub-advance c =

@@ -2,9 +2,9 @@
 use borrow.Author.Needs.{needs}
 use Rattle.profile.specs.Numbers.{tableOf}
 use Rattle.checks.specs.View.{segmentSeen}
-use Rattle.segments.proofs.FieldChecks.{usage-plain, usage-other}
-use Rattle.segments.proofs.is_required.Statement.{statement}
-use Rattle.segments.proofs.is_required.Tie as tie
+use Rattle.usage.proofs.Usages.{usage-plain, usage-other}
+use Rattle.usage.proofs.is_required.Statement.{statement}
+use Rattle.usage.proofs.is_required.Tie as tie
 
 returns : tie.Need-returns
 returns c =

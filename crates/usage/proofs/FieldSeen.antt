@@ -1,0 +1,44 @@
+-- What was read of a field is what is seen of it.
+use mathlib.Core.Path.{_≡_, sym, subst, _∙_}
+use Prim.Native.Nat.{ℕ, _+_, _≤_}
+use mathlib.Core.Bool.{false}
+use mathlib.Core.List.{List}
+use lib.ListN.{getD}
+use lib.Dec.{eqb}
+use Rattle.text.specs.Bytes.{Text, pick}
+use Rattle.text.specs.declared.marks.Marks.{Marks}
+use Rattle.frame.specs.Segments.{field, unsplit}
+use Rattle.profile.specs.Table.{Leaf, Rule}
+use Rattle.profile.specs.declared.rows.Rows.{Rows}
+use Rattle.profile.specs.Numbers.{tableOf}
+use Rattle.profile.specs.Inner.{Lists, leavesAt, ruleAt}
+use Rattle.fields.specs.declared.field.ReadField.{ReadField}
+use Rattle.checks.specs.View.{Field, fieldSeen}
+use Rattle.checks.specs.Fault.{firstFilled}
+use Rattle.listing.specs.Listing.{HasNumber}
+use Rattle.usage.specs.Listed.{leavesOfField}
+use Rattle.fields.specs.Judged.{ReadsField}
+use Rattle.usage.proofs.FieldText.{field-split, seen-surplus, seen-first}
+
+-- a field of a segment
+module _ (q : Marks) (t : List ℕ) (s : Text) (k at end : ℕ) (numbered : HasNumber s k) (low : pick (eqb k 1) 3 1 ≤ getD t (at + 1) 0) where
+  abbrev u : Rule
+  u = ruleAt t at end
+
+  abbrev v : Field
+  v = fieldSeen (tableOf t) q s u
+
+  pub cut : unsplit s (u .field) ≡ false
+  cut = field-split s k numbered (u .field) low
+
+  -- what was read of it, by the rows of its leaves, is what is seen of it
+  module _ (x : Text) (is : x ≡ field q s (getD t (at + 1) 0))
+      (rows : Rows) (lists : Lists t rows (leavesOfField q t s at end)) (a : ReadField) (by-rows : ReadsField q (leavesAt t rows) (getD t (at + 5) 0) x a) where
+    pub reads : ReadsField q (leavesOfField q t s at end) (u .repetitions) x a
+    reads = subst (λ (ls : List Leaf). ReadsField q ls (u .repetitions) x a) (lists .leaves) by-rows
+
+    pub surplus-is : a .surplus ≡ v .surplus
+    surplus-is = reads .surplus ∙ sym (seen-surplus (tableOf t) q s u x is cut)
+
+    pub filled-is : a .filled ≡ firstFilled v
+    filled-is = reads .filled ∙ sym (seen-first (tableOf t) q s u x is cut)

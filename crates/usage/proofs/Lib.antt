@@ -1,0 +1,5 @@
+pub mod FieldText
+pub mod FieldSeen
+pub mod FieldLeaves
+pub mod SegmentFields
+pub mod Usages
