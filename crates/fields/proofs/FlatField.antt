@@ -18,8 +18,9 @@ use native.Mathlib.Nat.{zero-add}
 use Rattle.text.proofs.Tests.{not-true as no}
 use Rattle.text.proofs.Lists.{and-both, or-none, every-drop, every-take}
 use Rattle.parts.specs.Split.{split, piece, start}
-use Rattle.parts.specs.Span.{span, IsPiece}
-use Rattle.parts.specs.declared.cursor.Cursor.{Cursor}
+use Rattle.parts.specs.Span.{span}
+use Rattle.cursor.specs.Cursor.{IsPiece}
+use Rattle.cursor.specs.declared.Cursor.{Cursor}
 use Rattle.parts.proofs.Split.{before-first}
 use Rattle.parts.proofs.Join.{Free, split-one}
 use Rattle.profile.specs.Table.{Leaf}

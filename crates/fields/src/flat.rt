@@ -6,11 +6,11 @@ ghost use Prim.Native.Nat.{ℕ, _≤_};
 ghost use Rattle.profile.specs.Inner.{Lists, leavesAt};
 ghost use Rattle.leaves.specs.Judged.{ReadsRepetition};
 ghost use Rattle.fields.specs.Judged.{ReadsField, isPlain, isFlat, passed, passedOnce};
+use cursor::advance;
+use cursor::first_piece;
 use leaves::leaf_reason;
 use leaves::missing_leaves;
 use leaves::takes_any;
-use parts::advance;
-use parts::first_piece;
 use profile::Rows;
 use text::Marks;
 

@@ -12,14 +12,15 @@ use Rattle.text.specs.Bytes.{Text, empty, some, within}
 use Rattle.text.specs.declared.marks.Marks.{Marks}
 use Rattle.text.proofs.Tests.{both}
 use Rattle.text.proofs.Lists.{or-assoc, or-false}
-use Rattle.parts.specs.declared.cursor.Cursor.{Cursor}
+use Rattle.cursor.specs.declared.Cursor.{Cursor}
 use Rattle.parts.specs.declared.Span.{Span}
 use Rattle.parts.specs.Split.{split, piece, start}
 use Rattle.parts.specs.Descent.{part, step}
-use Rattle.parts.specs.Span.{span, IsPiece}
+use Rattle.parts.specs.Span.{span}
+use Rattle.cursor.specs.Cursor.{IsPiece}
 use Rattle.parts.proofs.Split.{piece-le}
 use Rattle.parts.proofs.Descent.{within-piece}
-use Rattle.parts.proofs.Moving.{cursor-text, cursor-past}
+use Rattle.cursor.proofs.Moving.{cursor-text, cursor-past}
 use Rattle.profile.specs.declared.rows.Rows.{Rows}
 use Rattle.profile.specs.Table.{Leaf}
 use Rattle.profile.specs.Numbers as row

@@ -4,5 +4,4 @@ pub mod Descent
 pub mod Reach
 pub mod Depth
 pub mod Sought
-pub mod Moving
 pub mod Members

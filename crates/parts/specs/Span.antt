@@ -1,15 +1,13 @@
 -- What the code of the descent answers and is asked. Only inner functions promise it.
-use Prim.Native.Nat.{ℕ, zero, suc, _+_, _≤_}
-use mathlib.Core.Path.{_≡_}
+use Prim.Native.Nat.{ℕ, zero, suc, _+_}
 use mathlib.Core.List.{List, [], _∷_}
 use lib.ListN.{length}
 use Rattle.text.specs.Bytes.{Text}
 use Rattle.text.specs.declared.marks.Marks.{Marks}
-use Rattle.parts.specs.Split.{split, piece, start}
+use Rattle.parts.specs.Split.{start}
 use Rattle.parts.specs.Descent.{Step, step}
 use Rattle.parts.specs.declared.Span.{Span}
 use Rattle.parts.specs.declared.Numbers.{Numbers}
-use Rattle.parts.specs.declared.cursor.Cursor.{Cursor}
 
 -- a text that stands at a start: from there up to its end
 abbrev pub span : ℕ → Text → Span
@@ -33,9 +31,3 @@ numberOf n d = atDepth d (n .field) (n .repetition) (n .component) (n .subcompon
 unfoldable pub stepsFrom : Marks → Numbers → ℕ → List Step
 stepsFrom q n zero = []
 stepsFrom q n (suc d) = step (markOf q (suc d)) (numberOf n (suc d)) ∷ stepsFrom q n d
-
--- a cursor stands at the piece of its number
-pub record IsPiece (sep : ℕ) (t : Text) (c : Cursor) : Type 0 where
-  pub from : 1 ≤ c .number
-  pub starts : c .start ≡ start sep (c .number) t
-  pub ends : c .end ≡ c .start + length (piece (c .number) (split sep t))

@@ -7,14 +7,6 @@ ghost use Rattle.parts.specs.Split.{split, start, reach};
 ghost use Rattle.parts.specs.Descent.{part, partStart};
 ghost use Rattle.text.specs.Bytes.{within};
 ghost use Rattle.parts.specs.Span.{span, markOf, numberOf, stepsFrom};
-
-mod cursor;
-
-pub use cursor::Cursor;
-pub use cursor::advance;
-pub use cursor::advance_far;
-pub use cursor::first_far;
-pub use cursor::first_piece;
 use text::Marks;
 
 // The bytes from start up to, not including, end.

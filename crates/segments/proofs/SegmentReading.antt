@@ -9,8 +9,8 @@ use lib.Dec.{eqb}
 use borrow.Author.Tests.{eq-eqb, ne-eqb}
 use Rattle.text.specs.Bytes.{Text, pick, within}
 use Rattle.text.specs.declared.marks.Marks.{Marks}
-use Rattle.parts.specs.Span.{IsPiece}
-use Rattle.parts.specs.declared.cursor.Cursor.{Cursor}
+use Rattle.cursor.specs.Cursor.{IsPiece}
+use Rattle.cursor.specs.declared.Cursor.{Cursor}
 use Rattle.frame.specs.Segments.{field}
 use Rattle.profile.specs.declared.rows.Rows.{Rows}
 use Rattle.profile.specs.Numbers.{usageOf, rowsWithin, tableOf}

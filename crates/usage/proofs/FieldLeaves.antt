@@ -13,7 +13,7 @@ use Rattle.parts.specs.Split.{split, piece, reach}
 use Rattle.parts.specs.Descent.{part, inField}
 use Rattle.parts.proofs.Reach.{end-inside}
 use Rattle.parts.proofs.Descent.{within-length}
-use Rattle.parts.proofs.Moving.{cursor, cursor-text, cursor-first}
+use Rattle.cursor.proofs.Moving.{cursor, cursor-text, cursor-first}
 use Rattle.frame.specs.Segments.{field}
 use Rattle.profile.specs.Table.{Leaf}
 use Rattle.profile.specs.declared.rows.Rows.{Rows}

@@ -12,8 +12,8 @@ use borrow.Author.Tests.{lt-leb}
 use Rattle.text.specs.Bytes.{Text, pick, within}
 use Rattle.text.specs.declared.marks.Marks.{Marks}
 use Rattle.parts.specs.Split.{split, piece}
-use Rattle.parts.specs.Span.{IsPiece}
-use Rattle.parts.specs.declared.cursor.Cursor.{Cursor}
+use Rattle.cursor.specs.Cursor.{IsPiece}
+use Rattle.cursor.specs.declared.Cursor.{Cursor}
 use Rattle.frame.specs.Segments.{name, isHeader, field, headerField, unsplit}
 use Rattle.profile.specs.Table.{Table, Rule, leavesOf}
 use Rattle.checks.specs.Place.{repetitions}
@@ -21,7 +21,7 @@ use Rattle.checks.specs.View.{namedIn, fieldSeen}
 use Rattle.checks.specs.Fault.{startsFilled, firstFilled}
 use Rattle.listing.specs.Listing.{HasNumber}
 use Rattle.fields.specs.Judged.{repetitionsIn, filledIn}
-use Rattle.parts.proofs.Moving.{cursor-text}
+use Rattle.cursor.proofs.Moving.{cursor-text}
 use Rattle.profile.proofs.Numbered.{header-number}
 
 -- beyond the end there is nothing

@@ -7,7 +7,7 @@ use lib.ListN.{length, getD}
 use borrow.Author.Needs.{needs}
 use Rattle.text.specs.Bytes.{within}
 use Rattle.frame.specs.Segments.{name}
-use Rattle.parts.proofs.Moving.{cursor-inside}
+use Rattle.cursor.proofs.Moving.{cursor-inside}
 use Rattle.profile.proofs.Numbered.{named-number}
 use Rattle.profile.specs.Numbers.{tableOf}
 use Rattle.checks.specs.View.{segmentSeen}

@@ -3,7 +3,7 @@ use native.Mathlib.Omega.{arith}
 use lib.ListN.{length}
 use borrow.Author.Needs.{needs}
 use Rattle.text.specs.Bytes.{within}
-use Rattle.parts.proofs.Moving.{cursor-inside}
+use Rattle.cursor.proofs.Moving.{cursor-inside}
 use Rattle.usage.proofs.FieldText.{before-field, field-at}
 use Rattle.usage.proofs.field_text.Statement.{statement}
 use Rattle.usage.proofs.field_text.Tie as tie

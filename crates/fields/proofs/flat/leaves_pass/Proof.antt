@@ -11,7 +11,7 @@ use Rattle.fields.specs.Judged.{passedOnce}
 use Rattle.leaves.proofs.Breaks.{told-none}
 use Rattle.text.specs.Bytes.{within}
 use Rattle.text.proofs.Tests.{not-true, both}
-use Rattle.parts.proofs.Moving.{cursor-inside}
+use Rattle.cursor.proofs.Moving.{cursor-inside}
 use Rattle.leaves.proofs.LeafByLeaf.{Reading, reading-first, reading-number, reading-reason, reading-missing, reading-none}
 use Rattle.fields.proofs.FlatField.{flat-good, flat-on}
 use Rattle.fields.proofs.flat.leaves_pass.Statement.{statement}

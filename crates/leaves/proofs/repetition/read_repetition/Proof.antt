@@ -4,7 +4,7 @@ use Prim.Native.Nat.{_+_, _-_}
 use native.Mathlib.Omega.{arith}
 use mathlib.Core.Logic.{⊎-elim}
 use Rattle.text.proofs.Tests.{not-true}
-use Rattle.parts.proofs.Moving.{cursor-inside}
+use Rattle.cursor.proofs.Moving.{cursor-inside}
 use Rattle.leaves.proofs.LeafByLeaf.{Reading, reading-first, reading-number, reading-reason, reading-missing, reading-broken, reading-judged, reading-passed, reading-none, reading-inside}
 use Rattle.leaves.proofs.repetition.read_repetition.Statement.{statement}
 use Rattle.leaves.proofs.repetition.read_repetition.Tie as tie

@@ -1,9 +1,9 @@
 // Going from piece to piece of a text, each byte passed once. Inner: the callers hold that the cursor stands at a piece of the text.
 ghost use mathlib.Core.Path.{_≡_};
 ghost use Prim.Native.Nat.{_≤_};
-ghost use Rattle.parts.specs.Span.{IsPiece};
-use crate::near_end;
-use crate::piece_end;
+ghost use Rattle.cursor.specs.Cursor.{IsPiece};
+use parts::near_end;
+use parts::piece_end;
 
 // The piece with that number, from 1. Where there is none it is empty and stands at the text's end.
 pub struct Cursor {

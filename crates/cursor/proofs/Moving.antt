@@ -9,12 +9,12 @@ use mathlib.Core.List.{[], _∷_}
 use lib.ListN.{length, getD, drop}
 use lib.Dec.{eqb}
 use Rattle.text.specs.Bytes.{Text, pick, within}
-use Rattle.parts.specs.declared.cursor.Cursor.{Cursor}
+use Rattle.cursor.specs.declared.Cursor.{Cursor}
 use Rattle.parts.specs.Split.{front, split, piece, before, start, reach}
-use Rattle.parts.specs.Span.{IsPiece}
+use Rattle.cursor.specs.Cursor.{IsPiece}
 use Rattle.parts.proofs.Split.{later-step, piece-le, before-le, before-first}
 use Rattle.parts.proofs.Descent.{within-piece}
 use Rattle.parts.proofs.Reach.{first-length, reach-end, end-inside, before-on, before-end}
 
 -- what a user of a cursor needs: it lies in the text, and the bytes that it spans are its piece
 module _ (sep : ℕ) (t : Text) (c : Cursor) (h : IsPiece sep t c) where
