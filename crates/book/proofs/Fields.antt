@@ -16,7 +16,8 @@ use Rattle.text.specs.declared.refusal.Refusal.the-variants.{NoTag}
 use Rattle.text.proofs.Tests.{empty-some}
 use Rattle.text.proofs.Lists.{and-both}
 use Rattle.slip.specs.Slot.{Tagged, tagged, twoBytes, tagBytes}
-use Rattle.book.specs.Read.{Expected, size, value, hasTag, isThere, taken, isZero, isSlipFrom, Part, span, valueFrom}
+use Rattle.tags.specs.Fields.{Expected, size, value, hasTag, isThere, taken, isZero, isSlipFrom}
+use Rattle.book.specs.Read.{Part, span, valueFrom}
 use Rattle.book.specs.RoundTrip.{valueOfTag}
 
 -- a value that a slip may hold, and one that it must

@@ -1,4 +1,3 @@
-pub mod SlipField
 pub mod ReadSlip
 pub mod ValueLies
 pub mod Resolved

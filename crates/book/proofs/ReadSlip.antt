@@ -17,10 +17,12 @@ use Rattle.text.proofs.Tests.{both}
 use Rattle.slip.specs.Book.{noSlot}
 use Rattle.book.specs.declared.Value.{Value}
 use Rattle.book.specs.declared.Value.the-variants as code
-use Rattle.book.specs.declared.reading.Field.the-variants as field
-use Rattle.book.specs.Read.{mostOf, fieldOf, size, hasTag, Expected, expect, expected, taken, isSlipFrom, isSlip, Part, valueFrom, isNone, orNothing, readSlip}
+use Rattle.tags.specs.declared.Field.the-variants as field
+use Rattle.tags.specs.Fields.{mostOf, fieldOf, size, hasTag, Expected, expect, taken, isSlipFrom}
+use Rattle.book.specs.Read.{expected, isSlip, Part, valueFrom, isNone, orNothing, readSlip}
 use Rattle.book.specs.Told.{valueOf}
-use Rattle.book.specs.Inner.{ReadsField, readIn}
+use Rattle.tags.specs.Inner.{ReadsField}
+use Rattle.book.specs.Inner.{readIn}
 
 -- the fields of n tags from k on
 unfoldable pub fieldsFrom : ℕ → ℕ → List Expected

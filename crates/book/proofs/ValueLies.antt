@@ -18,7 +18,8 @@ use Rattle.reader.specs.Part.{VeryPart}
 use Rattle.book.specs.declared.Value.{Value}
 use Rattle.book.specs.declared.Value.the-variants as code
 use Rattle.slip.specs.Book.{noSlot}
-use Rattle.book.specs.Read.{size, value, hasTag, Expected, expected, isThere, taken, isSlipFrom, isSlip, Part, span, valueFrom, isNone, orNothing, slot, readTests, readSlip}
+use Rattle.tags.specs.Fields.{size, value, hasTag, Expected, isThere, taken, isSlipFrom}
+use Rattle.book.specs.Read.{expected, isSlip, Part, span, valueFrom, isNone, orNothing, slot, readTests, readSlip}
 use Rattle.book.specs.Told.{valueOf, startOf, endOf}
 use Rattle.book.specs.Inner.{Inside}
 use Rattle.book.proofs.ReadSlip.{part}

@@ -7,7 +7,8 @@ use mathlib.Core.List.{List, [], _∷_, _++_, append-assoc, append-nil, flatMap}
 use lib.ListN.{length, replicate, length-append, length-replicate}
 use Rattle.text.specs.Bytes.{Text}
 use Rattle.slip.specs.Slot.{Tagged, tagged, twoBytes, tagBytes, slipOf}
-use Rattle.book.specs.Read.{Expected, expect, expected, hasTag}
+use Rattle.tags.specs.Fields.{Expected, expect, hasTag}
+use Rattle.book.specs.Read.{expected}
 use Rattle.book.proofs.Fields.{Brief, Held, Reads, reads-field, reads-none, reads-count}
 
 -- a field that may be left out

@@ -3,64 +3,19 @@ use Prim.Native.Nat.{ℕ, _+_, _*_}
 use mathlib.Core.Bool.{Bool, true, false, not, _&&_}
 use mathlib.Core.List.{List, [], _∷_, map}
 use mathlib.Core.Option.{Option, none, some}
-use lib.ListN.{getD, take, drop}
-use lib.Dec.{eqb, leb}
-use Rattle.text.specs.Bytes.{Text, pick, printable, every}
+use lib.ListN.{take, drop}
+use lib.Dec.{eqb}
+use Rattle.text.specs.Bytes.{Text, pick}
 use Rattle.text.specs.Answer.{Answer, Test, test, first}
-use Rattle.text.specs.Limits.{_to_, isWithin}
 use Rattle.text.specs.declared.refusal.Refusal.the-variants.{NoSlot, BadSlip, NoTag}
+use Rattle.tags.specs.Fields.{Expected, size, hasTag, fieldOf, taken}
+unfoldable pub use Rattle.tags.specs.Fields.{isSlipFrom}
 use Rattle.slip.specs.Slot.{slotSize}
 use Rattle.slip.specs.Book.{noSlot}
 
--- what stands behind its tag at the head of a text: a two-byte length, high byte first, then the value
-abbrev pub size : Text → ℕ
-size t = getD t 1 0 * 256 + getD t 2 0
-
-abbrev pub value : Text → Text
-value t = take (size t) (drop 3 t)
-
-abbrev pub hasTag : ℕ → Text → Bool
-hasTag k t = eqb (getD t 0 0) k
-
--- a text field of a slip: its tag, its greatest length, and whether it may be left out
-pub record Expected : Type 0 where
-  pub tag : ℕ
-  pub most : ℕ
-  pub optional : Bool
-
-abbrev pub expect : ℕ → ℕ → Bool → Expected
-expect k n b = record { tag = k; most = n; optional = b }
-
--- 20 bytes (tag 1) or 199; tag 3 may be left out
-abbrev pub mostOf : ℕ → ℕ
-mostOf k = pick (eqb k 1) 20 199
-
-abbrev pub fieldOf : ℕ → Expected
-fieldOf k = expect k (mostOf k) (eqb k 3)
-
+-- the five in their order
 abbrev pub expected : List Expected
 expected = map fieldOf (1 ∷ 2 ∷ 3 ∷ 4 ∷ 5 ∷ [])
-
--- it stands there as it should, or is left out as it may be
-abbrev pub isThere : Expected → Text → Bool
-isThere x t =
-    pick (hasTag (x .tag) t) (isWithin (1 to x .most) (size t) && every printable (value t)) (x .optional)
-
--- how many bytes it takes
-abbrev pub taken : Expected → Text → ℕ
-taken x t = pick (hasTag (x .tag) t) (3 + size t) 0
-
--- the count: tag 6, two bytes, 0 to 509
-abbrev pub isCount : Text → Bool
-isCount t = hasTag 6 t && eqb (size t) 2 && leb (getD t 3 0 * 256 + getD t 4 0) 509
-
-abbrev pub isZero : ℕ → Bool
-isZero b = eqb b 0
-
--- those fields in order, then the count, then zeros
-unfoldable pub isSlipFrom : List Expected → Text → Bool
-isSlipFrom [] t = isCount t && every isZero (drop 5 t)
-isSlipFrom (x ∷ xs) t = isThere x t && isSlipFrom xs (drop (taken x t) t)
 
 -- A SLIP
 abbrev pub isSlip : Text → Bool

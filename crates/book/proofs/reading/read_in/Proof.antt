@@ -3,7 +3,7 @@ use Prim.Native.Nat.{_-_}
 use mathlib.Core.Path.{ap, _∙_}
 use mathlib.Core.Logic.{⊎-elim}
 use native.Mathlib.Omega.{arith}
-use Rattle.book.proofs.SlipField.{field-as}
+use Rattle.tags.proofs.SlipField.{field-as}
 use Rattle.book.proofs.ReadSlip.{ReadTo, read-none, read-bad, read-here, read-past, read-no-slip, read-count, read-found}
 use Rattle.book.specs.Told.{valueOf}
 use borrow.Author.Needs.{needs}

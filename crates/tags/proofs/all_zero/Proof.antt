@@ -7,9 +7,9 @@ use mathlib.Core.Bool.{_&&_}
 use lib.ListN.{length, drop, getD}
 use lib.Dec.{eqb}
 use Rattle.text.specs.Bytes.{every}
-use Rattle.book.specs.Read.{isZero}
-use Rattle.book.proofs.reading.all_zero.Statement.{statement}
-use Rattle.book.proofs.reading.all_zero.Tie as tie
+use Rattle.tags.specs.Fields.{isZero}
+use Rattle.tags.proofs.all_zero.Statement.{statement}
+use Rattle.tags.proofs.all_zero.Tie as tie
 
 abbrev Inv-loop : tie.InvT-loop
 Inv-loop t ok₀ i₀ ok i = (i ≤ length t) × (ok && every isZero (drop i t) ≡ every isZero t)

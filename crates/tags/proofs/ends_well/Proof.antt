@@ -1,8 +1,8 @@
 -- `ends_well`: the tests are those of the definition, in its order.
-use Rattle.book.proofs.SlipField.{ends-as}
+use Rattle.tags.proofs.SlipField.{ends-as}
 use borrow.Author.Needs.{needs}
-use Rattle.book.proofs.reading.ends_well.Statement.{statement}
-use Rattle.book.proofs.reading.ends_well.Tie as tie
+use Rattle.tags.proofs.ends_well.Statement.{statement}
+use Rattle.tags.proofs.ends_well.Tie as tie
 
 returns : tie.Need-returns
 returns c =

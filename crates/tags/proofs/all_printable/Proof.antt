@@ -6,8 +6,8 @@ use mathlib.Core.Path.{_≡_, sym, _∙_}
 use mathlib.Core.Bool.{_&&_}
 use lib.ListN.{length, drop}
 use Rattle.text.specs.Bytes.{every, printable}
-use Rattle.book.proofs.reading.all_printable.Statement.{statement}
-use Rattle.book.proofs.reading.all_printable.Tie as tie
+use Rattle.tags.proofs.all_printable.Statement.{statement}
+use Rattle.tags.proofs.all_printable.Tie as tie
 
 abbrev Inv-loop : tie.InvT-loop
 Inv-loop t ok₀ i₀ ok i = (i ≤ length t) × (ok && every printable (drop i t) ≡ every printable t)

@@ -1,9 +1,9 @@
 -- `read_field`: its tag, its length and its bytes are tested one after another.
 use native.Mathlib.Omega.{arith}
-use Rattle.book.proofs.SlipField.{field-skipped, field-missing, field-length, number-small, field-bytes, field-read}
+use Rattle.tags.proofs.SlipField.{field-skipped, field-missing, field-length, number-small, field-bytes, field-read}
 use borrow.Author.Needs.{needs}
-use Rattle.book.proofs.reading.read_field.Statement.{statement}
-use Rattle.book.proofs.reading.read_field.Tie as tie
+use Rattle.tags.proofs.read_field.Statement.{statement}
+use Rattle.tags.proofs.read_field.Tie as tie
 
 returns : tie.Need-returns
 returns c =

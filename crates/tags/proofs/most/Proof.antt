@@ -1,7 +1,7 @@
 -- `most`: the control number's limit, or that of every other text.
 use borrow.Author.Tests.{eq-eqb, ne-eqb}
-use Rattle.book.proofs.reading.most.Statement.{statement}
-use Rattle.book.proofs.reading.most.Tie as tie
+use Rattle.tags.proofs.most.Statement.{statement}
+use Rattle.tags.proofs.most.Tie as tie
 
 returns : tie.Need-returns
 returns c = rw (eq-eqb (c .before .args .tag) 1 (c .if1 .taken))

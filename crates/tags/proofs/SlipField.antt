@@ -13,10 +13,10 @@ use Rattle.text.specs.Bytes.{Text, pick, printable, every, within}
 use Rattle.text.specs.Limits.{_to_, isWithin}
 use Rattle.text.proofs.Tests.{both}
 use Rattle.text.proofs.Lists.{part-rest}
-use Rattle.book.specs.declared.reading.Field.{Field}
-use Rattle.book.specs.declared.reading.Field.the-variants as field
-use Rattle.book.specs.Read.{mostOf, fieldOf, size, value, hasTag, Expected, isThere, taken, isZero, isSlipFrom}
-use Rattle.book.specs.Inner.{ReadsField}
+use Rattle.tags.specs.declared.Field.{Field}
+use Rattle.tags.specs.declared.Field.the-variants as field
+use Rattle.tags.specs.Fields.{mostOf, fieldOf, size, value, hasTag, Expected, isThere, taken, isZero, isSlipFrom}
+use Rattle.tags.specs.Inner.{ReadsField}
 
 -- a field as its bytes in the slip tell it
 module _ (s : Text) (at : ℕ) where
