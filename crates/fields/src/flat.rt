@@ -3,15 +3,15 @@
 ghost use mathlib.Core.Path.{_≡_};
 ghost use mathlib.Core.Bool.{true};
 ghost use Prim.Native.Nat.{ℕ, _≤_};
-ghost use Rattle.profile.specs.Inner.{Lists, leavesAt};
+ghost use Rattle.codes.specs.Inner.{Lists, leavesAt};
 ghost use Rattle.leaves.specs.Judged.{ReadsRepetition};
 ghost use Rattle.fields.specs.Judged.{ReadsField, isPlain, isFlat, passed, passedOnce};
+use codes::Rows;
 use leaves::leaf_reason;
 use leaves::missing_leaves;
 use leaves::takes_any;
 use parts::advance;
 use parts::first_piece;
-use profile::Rows;
 use text::Marks;
 
 // Whether a byte is none of the marks that make a field more than its components.

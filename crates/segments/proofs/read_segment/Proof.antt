@@ -8,8 +8,8 @@ use borrow.Author.Needs.{needs}
 use Rattle.text.specs.Bytes.{within}
 use Rattle.frame.specs.Segments.{name}
 use Rattle.parts.proofs.Moving.{cursor-inside}
-use Rattle.profile.proofs.Numbered.{named-number}
 use Rattle.profile.specs.Numbers.{tableOf}
+use Rattle.codes.proofs.Numbered.{named-number}
 use Rattle.checks.specs.View.{segmentSeen}
 use Rattle.segments.proofs.FieldText.{field-at}
 use Rattle.fields.proofs.FlatField.{flat-within}

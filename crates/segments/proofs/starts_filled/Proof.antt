@@ -2,7 +2,7 @@
 use Prim.Native.Nat.{_+_}
 use native.Mathlib.Omega.{arith}
 use borrow.Author.Needs.{needs}
-use Rattle.profile.proofs.OneField.{field-low, field-most}
+use Rattle.codes.proofs.OneField.{field-low, field-most}
 use Rattle.segments.specs.Judged.{leavesOfField}
 use Rattle.segments.proofs.FieldLeaves.{lists-itself}
 use Rattle.segments.proofs.FieldChecks.{filled-is}
