@@ -1,10 +1,10 @@
 // A field's repetitions. Inner: the callers hold that the rows list the field's leaves.
 ghost use Prim.Native.Nat.{_≤_};
-ghost use Rattle.profile.specs.Inner.{Lists, leavesAt};
+ghost use Rattle.codes.specs.Inner.{Lists, leavesAt};
 ghost use Rattle.fields.specs.Judged.{ReadsField};
+use codes::Rows;
 use leaves::read_repetition;
 use parts::piece_end;
-use profile::Rows;
 use text::Marks;
 
 // Whether a field has more repetitions than it may; whether its first one is filled; the reason of the first broken check of the

@@ -3,7 +3,7 @@
 ghost use mathlib.Core.Path.{_≡_};
 ghost use mathlib.Core.Bool.{true};
 ghost use Prim.Native.Nat.{ℕ, _≤_};
-ghost use Rattle.profile.specs.Inner.{Lists, leavesAt};
+ghost use Rattle.codes.specs.Inner.{Lists, leavesAt};
 ghost use Rattle.leaves.specs.Judged.{ReadsRepetition};
 ghost use Rattle.fields.specs.Judged.{ReadsField, isPlain, isFlat, passed, passedOnce};
 use cursor::advance;
@@ -11,7 +11,7 @@ use cursor::first_piece;
 use leaves::leaf_reason;
 use leaves::missing_leaves;
 use leaves::takes_any;
-use profile::Rows;
+use codes::Rows;
 use text::Marks;
 
 // Whether a byte is none of the marks that make a field more than its components.

@@ -21,17 +21,17 @@ use Rattle.cursor.specs.Cursor.{IsPiece}
 use Rattle.parts.proofs.Split.{piece-le}
 use Rattle.parts.proofs.Descent.{within-piece}
 use Rattle.cursor.proofs.Moving.{cursor-text, cursor-past}
-use Rattle.profile.specs.declared.rows.Rows.{Rows}
+use Rattle.codes.specs.declared.rows.Rows.{Rows}
 use Rattle.profile.specs.Table.{Leaf}
 use Rattle.profile.specs.Numbers as row
-use Rattle.profile.specs.Inner.{Ascends, next, Lists, leavesAt}
+use Rattle.codes.specs.Inner.{Ascends, next, Lists, leavesAt}
 use Rattle.leaves.specs.declared.repetition.ReadRepetition.{ReadRepetition}
 use Rattle.checks.specs.Place.{Place, place, leafOf}
 use Rattle.checks.proofs.Filled.{none-filled, no-leaf}
 use Rattle.checks.specs.View.{entriesOf, isFilled}
 use Rattle.checks.specs.Fault.{Verdict, accepted, fault, leafChecks, repetitionChecks, firstBroken}
 use Rattle.leaves.specs.Judged.{told, ReadsRepetition}
-use Rattle.profile.proofs.RowSteps.{rows-next, rows-none}
+use Rattle.codes.proofs.RowSteps.{rows-next, rows-none}
 use Rattle.parts.proofs.Descent.{part-nil}
 use Rattle.leaves.proofs.LeafRule.{rule-missing, rule-empty}
 use Rattle.leaves.proofs.Breaks.{orElse, or-else-none, broken-flat, told-none, told-some}

@@ -12,8 +12,8 @@ use Rattle.escape.specs.Escape.{endsOutside, badEscape}
 use Rattle.text.specs.declared.marks.Marks.{Marks}
 use Rattle.text.proofs.Tests.{empty-none, empty-some}
 use Rattle.profile.specs.Table.{ofType, among}
-use Rattle.profile.proofs.Numbered.{other-type}
 use Rattle.profile.specs.Numbers.{leafOf, simpleOf, codesOf}
+use Rattle.codes.proofs.Numbered.{other-type}
 use Rattle.checks.specs.Place.{Place}
 use Rattle.checks.specs.Fault.{Verdict, accepted, fault, check, leafChecks, firstBroken}
 use Rattle.leaves.specs.Judged.{told}

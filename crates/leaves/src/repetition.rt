@@ -6,7 +6,7 @@ ghost use mathlib.Core.List.{[]};
 ghost use lib.ListN.{length};
 ghost use Rattle.text.specs.Bytes.{Text};
 ghost use Rattle.text.specs.declared.marks.Marks.{Marks};
-ghost use Rattle.profile.specs.Inner.{Lists, leavesAt};
+ghost use Rattle.codes.specs.Inner.{Lists, leavesAt};
 ghost use Rattle.checks.specs.Place.{place};
 ghost use Rattle.checks.specs.View.{entriesOf};
 ghost use Rattle.checks.specs.Fault.{repetitionChecks, firstBroken};
@@ -15,7 +15,7 @@ use crate::rule::leaf_reason;
 use cursor::advance;
 use cursor::first_far;
 use parts::piece;
-use profile::Rows;
+use codes::Rows;
 use text::Marks;
 
 // Whether a repetition is filled; the reason of its first broken check, 0 where there is none, and the place of that leaf.

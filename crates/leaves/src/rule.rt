@@ -10,9 +10,9 @@ ghost use Rattle.profile.specs.Numbers.{leafOf};
 ghost use Rattle.checks.specs.Place.{Place};
 ghost use Rattle.checks.specs.Fault.{accepted, leafChecks, firstBroken};
 ghost use Rattle.leaves.specs.Judged.{told};
+use codes::is_in_list;
+use codes::is_of_type;
 use escape::bad_escape;
-use profile::is_in_list;
-use profile::is_of_type;
 use text::Marks;
 
 // The reason of the first check that a leaf's text breaks, 0 where it breaks none. The row of the leaf begins at `at`. A caller who has

@@ -18,10 +18,10 @@ use Rattle.frame.proofs.Names.{three}
 use Rattle.profile.specs.Table.{isListed}
 use Rattle.profile.specs.Numbers.{segmentNumber, tableOf}
 use Rattle.profile.specs.Order.{Sound}
-use Rattle.profile.proofs.Numbered.{no-number}
+use Rattle.codes.proofs.Numbered.{no-number}
 use Rattle.checks.specs.View.{listedSegments}
 use Rattle.listing.specs.Listing.{countFrom, Opens, Next}
-use Rattle.profile.proofs.Rules.{listed-number}
+use Rattle.codes.proofs.Rules.{listed-number}
 use Rattle.listing.proofs.Counted.{segment-next, opens-behind, count-on, other-name}
 
 pub record Passed (m : Text) (at start end : ℕ) : Type 0 where

@@ -8,8 +8,8 @@ ghost use Rattle.frame.specs.Segments.{name};
 ghost use Rattle.profile.specs.Order.{Sound};
 ghost use Rattle.profile.specs.Numbers.{tableOf};
 ghost use Rattle.listing.specs.Listing.{nameAt, countBefore, Opens, NextIs};
+use codes::segment_number;
 use parts::far_end;
-use profile::segment_number;
 use text::is_same;
 
 // Where a listed segment stands, its CR not counted, and the number of its name.

@@ -6,4 +6,3 @@ pub mod Rows
 pub mod Profile
 pub mod Numbers
 pub mod Order
-pub mod Inner

@@ -1,19 +1,10 @@
-// The depot's own table, leaf by leaf, and the reading of a lent one.
+// The depot's own table, leaf by leaf.
 ghost use Rattle.profile.specs.Numbers.{Tells};
 ghost use Rattle.profile.specs.Order.{Sound};
 ghost use Rattle.profile.specs.Profile.{profile01};
 
-mod codes;
-mod rows;
 mod table;
 
-pub use codes::is_in_list;
-pub use codes::is_of_type;
-pub use codes::segment_number;
-pub use rows::Rows;
-pub use rows::field_end;
-pub use rows::rows_under;
-pub use rows::type_rows;
 use table::PROFILE;
 
 // The table, to be lent to whatever reads one: an entry takes it once. Inner: what its promise leaves open, no reader of a table looks at.

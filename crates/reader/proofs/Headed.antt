@@ -25,7 +25,7 @@ use Rattle.checks.specs.Fault.{checks, verdict, judge}
 use Rattle.reader.specs.Told.{verdictOf}
 use Rattle.listing.specs.Listing.{Here, Next}
 use Rattle.walk.specs.Judged.{haltVerdict, Counts, Walks}
-use Rattle.profile.proofs.Rules.{tells-same, listed-number}
+use Rattle.codes.proofs.Rules.{tells-same, listed-number}
 
 module _ (t : List ℕ) (m : Text) (sound : Sound t) (good : framed m ≡ true) where
   abbrev T : Table

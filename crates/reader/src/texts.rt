@@ -9,8 +9,8 @@ ghost use Rattle.reader.specs.Copied.{Stood, segmentText};
 use crate::search::shown;
 use crate::search::text_of;
 use crate::standing::Standing;
+use codes::is_in_list;
 use parts::Numbers;
-use profile::is_in_list;
 use seek::leaf;
 use text::marks_of;
 

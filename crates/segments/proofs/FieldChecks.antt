@@ -12,9 +12,9 @@ use Rattle.text.specs.Bytes.{Text, pick, some}
 use Rattle.text.specs.declared.marks.Marks.{Marks}
 use Rattle.frame.specs.Segments.{field, unsplit}
 use Rattle.profile.specs.Table.{Rule}
-use Rattle.profile.specs.declared.rows.Rows.{Rows}
+use Rattle.codes.specs.declared.rows.Rows.{Rows}
 use Rattle.profile.specs.Numbers.{usageOf, tableOf}
-use Rattle.profile.specs.Inner.{Lists, leavesAt, ruleAt}
+use Rattle.codes.specs.Inner.{Lists, leavesAt, ruleAt}
 use Rattle.fields.specs.declared.field.ReadField.{ReadField}
 use Rattle.segments.specs.declared.Finding.{Finding}
 use Rattle.checks.specs.View.{Repetition, Field, filledFrom, fieldSeen, segmentSeen}

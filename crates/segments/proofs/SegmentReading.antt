@@ -12,9 +12,9 @@ use Rattle.text.specs.declared.marks.Marks.{Marks}
 use Rattle.cursor.specs.Cursor.{IsPiece}
 use Rattle.cursor.specs.declared.Cursor.{Cursor}
 use Rattle.frame.specs.Segments.{field}
-use Rattle.profile.specs.declared.rows.Rows.{Rows}
 use Rattle.profile.specs.Numbers.{usageOf, rowsWithin, tableOf}
-use Rattle.profile.specs.Inner.{Under, ofField, ruleAt}
+use Rattle.codes.specs.declared.rows.Rows.{Rows}
+use Rattle.codes.specs.Inner.{Under, ofField, ruleAt}
 use Rattle.segments.specs.declared.Finding.{Finding}
 use Rattle.checks.specs.Place.{Place, place}
 use Rattle.checks.specs.View.{Field, fieldSeen, segmentSeen}

@@ -6,7 +6,7 @@ use Rattle.text.specs.Bytes.{Text}
 use Rattle.text.specs.declared.marks.Marks.{Marks}
 use Rattle.profile.specs.Table.{Table}
 use Rattle.profile.specs.Numbers.{tableOf}
-use Rattle.profile.specs.Inner.{ruleAt}
+use Rattle.codes.specs.Inner.{ruleAt}
 use Rattle.segments.specs.declared.Finding.{Finding}
 use Rattle.checks.specs.Place.{place}
 use Rattle.checks.specs.View.{fieldSeen, segmentSeen}

@@ -16,9 +16,9 @@ use Rattle.parts.proofs.Descent.{within-length}
 use Rattle.cursor.proofs.Moving.{cursor, cursor-text, cursor-first}
 use Rattle.frame.specs.Segments.{field}
 use Rattle.profile.specs.Table.{Leaf}
-use Rattle.profile.specs.declared.rows.Rows.{Rows}
-use Rattle.profile.specs.Inner.{Lists, Ascends, IsField, leavesAt, leavesNamed}
-use Rattle.profile.proofs.OneField.{field-namer, leaves-plain, leaves-named}
+use Rattle.codes.specs.declared.rows.Rows.{Rows}
+use Rattle.codes.specs.Inner.{Lists, Ascends, IsField, leavesAt, leavesNamed}
+use Rattle.codes.proofs.OneField.{field-namer, leaves-plain, leaves-named}
 use Rattle.checks.specs.Place.{leafAt}
 use Rattle.checks.specs.View.{namedIn}
 use Rattle.listing.specs.Listing.{HasNumber}

@@ -9,9 +9,9 @@ use Rattle.text.specs.Bytes.{Text, pick}
 use Rattle.text.specs.declared.marks.Marks.{Marks}
 use Rattle.frame.specs.Segments.{field, unsplit}
 use Rattle.profile.specs.Table.{Leaf, Rule}
-use Rattle.profile.specs.declared.rows.Rows.{Rows}
+use Rattle.codes.specs.declared.rows.Rows.{Rows}
 use Rattle.profile.specs.Numbers.{tableOf}
-use Rattle.profile.specs.Inner.{Lists, leavesAt, ruleAt}
+use Rattle.codes.specs.Inner.{Lists, leavesAt, ruleAt}
 use Rattle.fields.specs.declared.field.ReadField.{ReadField}
 use Rattle.checks.specs.View.{Field, fieldSeen}
 use Rattle.checks.specs.Fault.{firstFilled}

@@ -22,7 +22,7 @@ use Rattle.checks.specs.Fault.{startsFilled, firstFilled}
 use Rattle.listing.specs.Listing.{HasNumber}
 use Rattle.fields.specs.Judged.{repetitionsIn, filledIn}
 use Rattle.cursor.proofs.Moving.{cursor-text}
-use Rattle.profile.proofs.Numbered.{header-number}
+use Rattle.codes.proofs.Numbered.{header-number}
 
 -- beyond the end there is nothing
 drop-min : (k : ℕ) (s : Text) → drop (min k (length s)) s ≡ drop k s

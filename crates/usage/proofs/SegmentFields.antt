@@ -10,16 +10,16 @@ use Rattle.text.specs.Bytes.{Text, pick, some}
 use Rattle.text.specs.declared.marks.Marks.{Marks}
 use Rattle.frame.specs.Segments.{name}
 use Rattle.profile.specs.Table.{C, gathered}
-use Rattle.profile.specs.declared.rows.Rows.{Rows}
 use Rattle.profile.specs.Numbers.{rowOf, rowsWithin, tableOf}
 use Rattle.profile.specs.Order.{areOf, Ordered}
-use Rattle.profile.specs.Inner.{Under, ofField, IsField, ruleAt}
+use Rattle.codes.specs.declared.rows.Rows.{Rows}
+use Rattle.codes.specs.Inner.{Under, ofField, IsField, ruleAt}
 use Rattle.checks.specs.View.{Field, fieldSeen, segmentSeen}
 use Rattle.checks.specs.Fault.{firstFilled, isRequired}
 use Rattle.listing.specs.Listing.{HasNumber}
-use Rattle.profile.proofs.RowSteps.{rows-none}
-use Rattle.profile.proofs.OneField.{field-bounds, rules-at, field-is, ordered-rest, of-rest, field-later, field-low}
-use Rattle.profile.proofs.Rules.{rules-under}
+use Rattle.codes.proofs.RowSteps.{rows-none}
+use Rattle.codes.proofs.OneField.{field-bounds, rules-at, field-is, ordered-rest, of-rest, field-later, field-low}
+use Rattle.codes.proofs.Rules.{rules-under}
 
 -- the rows left: in order, and of one segment
 pub record Left (t : List ℕ) (k at end : ℕ) : Type 0 where

@@ -5,7 +5,7 @@ use Rattle.text.specs.Bytes.{Text}
 use Rattle.text.specs.declared.marks.Marks.{Marks}
 use Rattle.profile.specs.Table.{Leaf, leavesOf}
 use Rattle.profile.specs.Numbers.{tableOf}
-use Rattle.profile.specs.Inner.{ruleAt}
+use Rattle.codes.specs.Inner.{ruleAt}
 use Rattle.checks.specs.View.{Field, namedIn, segmentSeen}
 
 -- what is seen of a segment's listed fields

@@ -8,7 +8,7 @@ ghost use Rattle.text.specs.Bytes.{pick, within};
 ghost use lib.Dec.{eqb};
 ghost use Rattle.parts.specs.Descent.{part, inField};
 ghost use Rattle.frame.specs.Segments.{field};
-ghost use Rattle.profile.specs.Inner.{Lists, IsField, leavesNamed, ruleAt};
+ghost use Rattle.codes.specs.Inner.{Lists, IsField, leavesNamed, ruleAt};
 ghost use Rattle.profile.specs.Table.{C};
 ghost use Rattle.profile.specs.Numbers.{tableOf, usageOf};
 ghost use Rattle.profile.specs.Order.{Sound};
@@ -20,10 +20,10 @@ use cursor::advance;
 use cursor::first_piece;
 use fields::read_field;
 use parts::piece_end;
-use profile::Rows;
-use profile::field_end;
-use profile::rows_under;
-use profile::type_rows;
+use codes::Rows;
+use codes::field_end;
+use codes::rows_under;
+use codes::type_rows;
 use text::Marks;
 
 // Where a segment's fields begin: the header's third behind its ninth byte, any other's first behind its name and one

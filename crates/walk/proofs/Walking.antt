@@ -30,7 +30,7 @@ use Rattle.segments.specs.Judged.{toldAt, ReadsSegment}
 use Rattle.listing.specs.Listing.{nameAt, countFrom, countBefore, Here, Next, NextIs}
 use Rattle.walk.specs.Judged.{numberAt, walkFrom, Counts, Walks}
 use Rattle.walk.specs.Onward.{Behind, OnwardIs}
-use Rattle.profile.proofs.Numbered.{named-number}
+use Rattle.codes.proofs.Numbered.{named-number}
 use Rattle.leaves.proofs.Breaks.{orElse, broken-append}
 use Rattle.listing.proofs.Counted.{count-on}
 

@@ -4,7 +4,7 @@ use mathlib.Core.Logic.{⊎-elim}
 use Prim.Native.Nat.{_+_}
 use lib.ListN.{getD}
 use borrow.Author.Needs.{needs}
-use Rattle.profile.proofs.OneField.{field-low, field-most}
+use Rattle.codes.proofs.OneField.{field-low, field-most}
 use Rattle.usage.specs.Listed.{leavesOfField}
 use Rattle.fields.specs.Judged.{passed}
 use Rattle.usage.proofs.FieldLeaves.{lists-own, lists-itself}

@@ -2,7 +2,7 @@
 use Prim.Native.Nat.{_+_}
 use native.Mathlib.Omega.{arith}
 use borrow.Author.Needs.{needs}
-use Rattle.profile.proofs.OneField.{field-low, field-most}
+use Rattle.codes.proofs.OneField.{field-low, field-most}
 use Rattle.usage.specs.Listed.{leavesOfField}
 use Rattle.usage.proofs.FieldLeaves.{lists-itself}
 use Rattle.segments.proofs.FieldChecks.{judged-surplus, judged-missing, judged-optional, judged-filled}

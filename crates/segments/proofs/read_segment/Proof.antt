@@ -8,7 +8,7 @@ use borrow.Author.Needs.{needs}
 use Rattle.text.specs.Bytes.{within}
 use Rattle.frame.specs.Segments.{name}
 use Rattle.cursor.proofs.Moving.{cursor-inside}
-use Rattle.profile.proofs.Numbered.{named-number}
+use Rattle.codes.proofs.Numbered.{named-number}
 use Rattle.profile.specs.Numbers.{tableOf}
 use Rattle.checks.specs.View.{segmentSeen}
 use Rattle.usage.proofs.FieldText.{field-at}

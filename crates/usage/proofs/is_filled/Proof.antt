@@ -3,7 +3,7 @@ use Prim.Native.Nat.{_-_}
 use native.Mathlib.Omega.{arith}
 use borrow.Author.Needs.{needs}
 use Rattle.frame.specs.Segments.{name}
-use Rattle.profile.proofs.Numbered.{named-number}
+use Rattle.codes.proofs.Numbered.{named-number}
 use Rattle.usage.proofs.SegmentFields.{on-bounds, on-field, Seeks, seeks-first, seeks-found, seeks-empty, seeks-other, seeks-none}
 use Rattle.usage.proofs.is_filled.Statement.{statement}
 use Rattle.usage.proofs.is_filled.Tie as tie

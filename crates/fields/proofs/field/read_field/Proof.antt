@@ -9,7 +9,7 @@ use lib.ListN.{length, drop}
 use Rattle.text.specs.Bytes.{Text, within}
 use Rattle.parts.specs.Split.{split}
 use Rattle.parts.proofs.Reach.{end-inside, split-on}
-use Rattle.profile.specs.Inner.{leavesAt}
+use Rattle.codes.specs.Inner.{leavesAt}
 use Rattle.fields.proofs.Repeats.{Repeats, repeats-none, repeats-first, repeats-kept, repeats-blank, repeats-read, repeats-last, repeats-over, split-whole}
 use Rattle.fields.proofs.field.read_field.Statement.{statement}
 use Rattle.fields.proofs.field.read_field.Tie as tie

@@ -4,7 +4,7 @@ use mathlib.Core.Logic.{⊎-elim}
 use borrow.Author.Needs.{needs}
 use borrow.Author.Tests.{not-false}
 use Rattle.text.proofs.Tests.{not-true}
-use Rattle.profile.specs.Inner.{leavesAt}
+use Rattle.codes.specs.Inner.{leavesAt}
 use Rattle.fields.proofs.FlatField.{flat-reads}
 use Rattle.fields.proofs.flat.flat_passes.Statement.{statement}
 use Rattle.fields.proofs.flat.flat_passes.Tie as tie

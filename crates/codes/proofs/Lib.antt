@@ -1,0 +1,6 @@
+pub mod Numbered
+pub mod RowSteps
+pub mod Stretch
+pub mod Ascending
+pub mod OneField
+pub mod Rules

@@ -1,0 +1,254 @@
+-- The rows of the first field among those from one place up to another: the rule that they are, its leaves, and the rows behind them.
+use mathlib.Core.Path.{_≡_, refl, sym, ap, subst, _∙_}
+use Prim.Native.Nat.{ℕ, suc, _+_, _*_, _-_, _/_, _≤_, _<_}
+use native.Mathlib.Nat.{div-mul-le-self}
+use native.Mathlib.Omega.{arith}
+use mathlib.Core.Bool.{Bool, true, false}
+use mathlib.Core.List.{List, [], _∷_, _++_, map, flatMap}
+use lib.ListN.{length, getD, drop}
+use lib.Seq.{getD-drop}
+use lib.Dec.{eqb}
+use borrow.Author.Tests.{eq-eqb, ne-eqb, eqb-true, eqb-false}
+use Rattle.text.specs.Bytes.{Text, pick, every}
+use Rattle.text.proofs.Tests.{both}
+use Rattle.text.proofs.Lists.{and-both}
+use Rattle.profile.specs.Table.{Listed, Row, Rule, rule, gather, gathered, leavesIn, leavesOf}
+use Rattle.profile.specs.Numbers.{leafOf, listedOf, rowOf, rowsWithin, tableOf}
+use Rattle.profile.specs.Order.{areOf, rises, isProper, sameField, Ordered}
+use Rattle.codes.specs.Inner.{ofField, Ascends, IsField, ruleAt, leavesNamed}
+use Rattle.codes.proofs.RowSteps.{rows-none, rows-next, rows-length, front-length, rows-cut}
+use Rattle.codes.proofs.Stretch as stretch
+use Rattle.codes.proofs.Stretch.{every-left, every-right}
+use Rattle.codes.proofs.Ascending.{Proper, proper-row, field-rises, rises-above, inField, one-field, isPlain, plain-rows, plain-leaves, named-alone, named-leaf, ascending}
+
+-- how many rows of a field come first
+field-le-step : (b : Bool) (m n : ℕ) → m ≤ n → pick b (suc m) 0 ≤ suc n
+field-le-step true m n h = omega arith
+field-le-step false m n h = omega arith
+
+field-le : (f : ℕ) (rs : List (List ℕ)) → ofField f rs ≤ length rs
+unfolding ofField
+field-le f [] = omega arith
+field-le f (r ∷ rs) = field-le-step (inField f r) (ofField f rs) (length rs) (field-le f rs)
+
+-- a row further: of the field, of another, and none
+module _ (t : List ℕ) (at end f : ℕ) where
+  pub field-on : 11 ≤ end - at → getD t (at + 1) 0 ≡ f → ofField f (rowsWithin at end t) ≡ suc (ofField f (rowsWithin (at + 11) end t))
+  unfolding ofField
+  field-on h e = rw (rows-next t at end h, eq-eqb (getD (drop at t) 1 0) f (getD-drop at t 1 0 ∙ e))
+
+  pub field-over : 11 ≤ end - at → (getD t (at + 1) 0 ≡ f → ⊥) → ofField f (rowsWithin at end t) ≡ 0
+  unfolding ofField
+  field-over h n = rw (rows-next t at end h, ne-eqb (getD (drop at t) 1 0) f (λ e. n (sym (getD-drop at t 1 0) ∙ e)))
+
+  pub field-none : end - at < 11 → ofField f (rowsWithin at end t) ≡ 0
+  unfolding ofField
+  field-none h = rw (rows-none t at end h)
+
+-- as many as there are in front of the others: each of those is of the field, and the next is not
+counted : (b : Bool) (m n : ℕ) → pick b (suc m) 0 ≡ suc n → (b ≡ true) × (m ≡ n)
+counted true m n e = (refl, omega arith)
+counted false m n e = absurd (omega arith)
+
+uncounted : (b : Bool) (m : ℕ) → pick b (suc m) 0 ≡ 0 → b ≡ false
+uncounted true m e = absurd (omega arith)
+uncounted false m e = refl
+
+field-front : (f : ℕ) (l r : List (List ℕ)) → ofField f (l ++ r) ≡ length l → every (inField f) l ≡ true
+unfolding ofField every
+field-front f [] r e = refl
+field-front f (x ∷ l) r e =
+    let h = counted (inField f x) (ofField f (l ++ r)) (length l) e in
+    and-both (inField f x) (every (inField f) l) (h .0) (field-front f l r (h .1))
+
+field-next : (f : ℕ) (l : List (List ℕ)) (y : List ℕ) (r : List (List ℕ)) → ofField f (l ++ (y ∷ r)) ≡ length l → inField f y ≡ false
+unfolding ofField
+field-next f [] y r e = uncounted (inField f y) (ofField f r) e
+field-next f (x ∷ l) y r e = field-next f l y r (counted (inField f x) (ofField f (l ++ (y ∷ r))) (length l) e .1)
+
+-- a row in front of one of another field begins a rule of its own
+apart-step : (q r : Row) (c : Bool) (ls ks : List Listed) (us vs : List Rule) → eqb (q .field) (r .field) ≡ false
+    → gather q (pick c (rule r ls ∷ us) (rule r ks ∷ vs)) ≡ rule q (q .lists ∷ []) ∷ pick c (rule r ls ∷ us) (rule r ks ∷ vs)
+apart-step q r true ls ks us vs e = rw e
+apart-step q r false ls ks us vs e = rw e
+
+gather-apart : (q r : Row) (us : List Rule) → eqb (q .field) (r .field) ≡ false → gather q (gather r us) ≡ rule q (q .lists ∷ []) ∷ gather r us
+gather-apart q r [] e = rw e
+gather-apart q r (u ∷ us) e = apart-step q r (eqb (r .field) (u .field)) (r .lists ∷ u .lists) (r .lists ∷ []) us (u ∷ us) e
+
+eqb-swap : (a b : ℕ) → eqb a b ≡ false → eqb b a ≡ false
+eqb-swap a b e = ne-eqb b a (λ h. eqb-false a b e (sym h))
+
+gathered-first : (n : Text) (x : List ℕ) (l r : List (List ℕ)) → ofField (getD x 1 0) (l ++ r) ≡ length l
+    → gathered (map (rowOf n) (x ∷ (l ++ r))) ≡ rule (rowOf n x) (map listedOf (x ∷ l)) ∷ gathered (map (rowOf n) r)
+unfolding ofField gathered
+gathered-first n x [] [] e = refl
+gathered-first n x [] (y ∷ r) e =
+    gather-apart (rowOf n x) (rowOf n y) (gathered (map (rowOf n) r))
+    (eqb-swap (getD y 1 0) (getD x 1 0) (uncounted (inField (getD x 1 0) y) (ofField (getD x 1 0) r) e))
+gathered-first n x (y ∷ l) r e =
+    let h = counted (inField (getD x 1 0) y) (ofField (getD x 1 0) (l ++ r)) (length l) e in
+    let s = eqb-true (getD y 1 0) (getD x 1 0) (h .0) in
+    ap (gather (rowOf n x)) (gathered-first n y l r (rw s (h .1)))
+    ∙ rw (eq-eqb (getD x 1 0) (getD y 1 0) (sym s))
+
+pub rule-at : (t : List ℕ) (at e : ℕ) (n : Text) → rule (rowOf n (drop at t)) (map listedOf (rowsWithin at e t)) ≡ ruleAt t at e
+rule-at t at e n = rw (getD-drop at t 1 0, getD-drop at t 4 0, getD-drop at t 5 0)
+
+above : (a b : ℕ) → a ≤ b → eqb b a ≡ false → a < b
+above a b h e = omega (arith, eqb-false b a e)
+
+-- the same told by positions: e is where the rows of the first one's field end
+module _ (t : List ℕ) (at end e : ℕ) (some : 11 ≤ end - at) (inside : end ≤ length t) (is : e ≡ at + ofField (getD t (at + 1) 0) (rowsWithin at end t) * 11) where
+  abbrev field : ℕ
+  field = getD t (at + 1) 0
+
+  pub field-bounds : (at + 11 ≤ e) × (e ≤ end)
+  field-bounds = (
+    omega (arith, is, field-on t at end field some refl),
+    omega (arith, is, field-le field (rowsWithin at end t), rows-length ((end - at) / 11) (drop at t), div-mul-le-self (end - at) 11),
+  )
+
+  abbrev front : List (List ℕ)
+  front = rowsWithin (at + 11) e t
+
+  abbrev rest : List (List ℕ)
+  rest = rowsWithin e end t
+
+  front-is : rowsWithin at e t ≡ drop at t ∷ front
+  front-is = rows-next t at e (omega (arith, field-bounds .0))
+
+  cut : rowsWithin at end t ≡ rowsWithin at e t ++ rest
+  cut = rows-cut t at end e (ofField field (rowsWithin at end t)) is (field-bounds .1)
+
+  rows-are : rowsWithin at end t ≡ drop at t ∷ (front ++ rest)
+  rows-are = cut ∙ ap (λ (l : List (List ℕ)). l ++ rest) front-is
+
+  front-counts : ofField field (drop at t ∷ (front ++ rest)) ≡ suc (length front)
+  front-counts =
+      ap (ofField field) (sym rows-are)
+      ∙ sym (front-length t at end e (ofField field (rowsWithin at end t)) is (field-bounds .1))
+      ∙ ap length front-is
+
+  stops : ofField (getD (drop at t) 1 0) (front ++ rest) ≡ length front
+  unfolding ofField
+  stops =
+      rw (getD-drop at t 1 0)
+      (counted (inField field (drop at t)) (ofField field (front ++ rest)) (length front) front-counts .1)
+
+  pub rules-first : (n : Text)
+      → gathered (map (rowOf n) (rowsWithin at end t)) ≡ rule (rowOf n (drop at t)) (map listedOf (rowsWithin at e t)) ∷ gathered (map (rowOf n) (rowsWithin e end t))
+  rules-first n =
+      ap (λ (l : List (List ℕ)). gathered (map (rowOf n) l)) rows-are
+      ∙ gathered-first n (drop at t) front rest stops
+      ∙ ap (λ (l : List (List ℕ)). rule (rowOf n (drop at t)) (map listedOf l) ∷ gathered (map (rowOf n) rest)) (sym front-is)
+
+  pub rules-at : (n : Text) → gathered (map (rowOf n) (rowsWithin at end t)) ≡ ruleAt t at e ∷ gathered (map (rowOf n) (rowsWithin e end t))
+  rules-at n = rules-first n ∙ ap (λ (u : Rule). u ∷ gathered (map (rowOf n) rest)) (rule-at t at e n)
+
+  -- what the rule of the table says of them
+  pub ordered-rest : Ordered (rowsWithin at end t) → Ordered (rowsWithin e end t)
+  ordered-rest o = stretch.ordered-right (rowsWithin at e t) rest (subst Ordered cut o)
+
+  pub ordered-front : Ordered (rowsWithin at end t) → Ordered (rowsWithin at e t)
+  ordered-front o = stretch.ordered-left (rowsWithin at e t) rest (subst Ordered cut o)
+
+  front-field : every (inField (getD (drop at t) 1 0)) (drop at t ∷ front) ≡ true
+  unfolding every
+  front-field =
+      and-both (inField (getD (drop at t) 1 0) (drop at t)) (every (inField (getD (drop at t) 1 0)) front)
+      (eq-eqb (getD (drop at t) 1 0) (getD (drop at t) 1 0) refl) (field-front (getD (drop at t) 1 0) front rest stops)
+
+  first-proper : Ordered (rowsWithin at end t) → Proper (drop at t)
+  unfolding every
+  first-proper o =
+      let p = subst (λ (l : List (List ℕ)). every isProper l ≡ true) rows-are (o .proper) in
+      proper-row (drop at t) (both (isProper (drop at t)) (every isProper (front ++ rest)) p .0)
+
+  module _ (k : ℕ) where
+    of-all : areOf k (rowsWithin at end t) ≡ true → areOf k (drop at t ∷ (front ++ rest)) ≡ true
+    of-all a = subst (λ (l : List (List ℕ)). areOf k l ≡ true) rows-are a
+
+    pub of-rest : areOf k (rowsWithin at end t) ≡ true → areOf k (rowsWithin e end t) ≡ true
+    of-rest a = every-right (λ (r : List ℕ). eqb (getD r 0 0) k) (rowsWithin at e t) rest (subst (λ (l : List (List ℕ)). areOf k l ≡ true) cut a)
+
+    segment-is : areOf k (rowsWithin at end t) ≡ true → getD (drop at t) 0 0 ≡ k
+    unfolding every
+    segment-is a = eqb-true (getD (drop at t) 0 0) k (both (eqb (getD (drop at t) 0 0) k) (areOf k (front ++ rest)) (of-all a) .0)
+
+    front-of : areOf k (rowsWithin at end t) ≡ true → areOf k (drop at t ∷ front) ≡ true
+    front-of a = every-left (λ (r : List ℕ). eqb (getD r 0 0) k) (drop at t ∷ front) rest (of-all a)
+
+    pub field-is : Ordered (rowsWithin at end t) → areOf k (rowsWithin at end t) ≡ true → IsField t k at e
+    field-is o a =
+        record {
+          some = field-bounds .0;
+          inside = omega (arith, field-bounds .1);
+          ordered = ordered-front o;
+          one = rw front-is (one-field (drop at t) k (getD (drop at t) 1 0) (segment-is a) refl (drop at t ∷ front) (front-of a) front-field);
+          segment = segment-is a;
+        }
+
+    -- a field behind has a higher number
+    pub field-later : Ordered (rowsWithin at end t) → areOf k (rowsWithin at end t) ≡ true → 11 ≤ end - e → getD t (at + 1) 0 < getD t (e + 1) 0
+    unfolding every
+    field-later o a more =
+        let x = drop at t in
+        let y = drop e t in
+        let later = rowsWithin (e + 11) end t in
+        let next : rest ≡ y ∷ later = rows-next t e end more in
+        let all : rowsWithin at end t ≡ x ∷ (front ++ (y ∷ later)) = rows-are ∙ ap (λ (l : List (List ℕ)). x ∷ (front ++ l)) next in
+        let p = both (isProper y) (every isProper later) (subst (λ (l : List (List ℕ)). every isProper l ≡ true) next (ordered-rest o .proper)) in
+        let b = both (eqb (getD y 0 0) k) (areOf k later) (subst (λ (l : List (List ℕ)). areOf k l ≡ true) next (of-rest a)) in
+        let l = rises-above x y front later (subst (λ (l : List (List ℕ)). rises l ≡ true) all (o .order)) in
+        let s = segment-is a ∙ sym (eqb-true (getD y 0 0) k (b .0)) in
+        let n = field-next (getD x 1 0) front y later (subst (λ (l : List (List ℕ)). ofField (getD x 1 0) (front ++ l) ≡ length front) next stops) in
+        let h = field-rises x y (first-proper o) (proper-row y (p .0)) l s in
+        rw (← getD-drop at t 1 0, ← getD-drop e t 1 0) (above (getD x 1 0) (getD y 1 0) h n)
+
+-- ONE FIELD: its number, how often it may repeat, and its leaves
+module _ (t : List ℕ) (k at e : ℕ) (is : IsField t k at e) where
+  abbrev others : List (List ℕ)
+  others = rowsWithin (at + 11) e t
+
+  rows-of : rowsWithin at e t ≡ drop at t ∷ others
+  rows-of = rows-next t at e (omega (arith, is .some))
+
+  ordered-of : Ordered (drop at t ∷ others)
+  ordered-of = subst Ordered rows-of (is .ordered)
+
+  one-of : every (λ (r : List ℕ). sameField (drop at t) r) (drop at t ∷ others) ≡ true
+  one-of = subst (λ (l : List (List ℕ)). every (λ (r : List ℕ). sameField (drop at t) r) l ≡ true) rows-of (is .one)
+
+  proper-of : Proper (drop at t)
+  unfolding every
+  proper-of = proper-row (drop at t) (both (isProper (drop at t)) (every isProper others) (ordered-of .proper) .0)
+
+  pub field-low : pick (eqb k 1) 3 1 ≤ getD t (at + 1) 0
+  field-low = rw (is .segment, getD-drop at t 1 0) at (proper-of .field)
+
+  pub field-most : 1 ≤ getD t (at + 5) 0
+  field-most = rw (getD-drop at t 5 0) at (proper-of .repeats)
+
+  pub field-namer : 10 ≤ getD t (at + 6) 0 → pick (eqb k 1) 13 11 ≤ getD t (at + 6) 0
+  field-namer h = rw (is .segment, getD-drop at t 6 0) at (proper-of .named (rw (getD-drop at t 6 0) h))
+
+  pub leaves-plain : getD t (at + 6) 0 < 10 → (names : ℕ → Text)
+      → (leavesOf (tableOf t) names (ruleAt t at e) ≡ map leafOf (rowsWithin at e t)) × Ascends 1 (map leafOf (rowsWithin at e t))
+  leaves-plain h names =
+      let x = drop at t in
+      let g : getD x 6 0 < 10 = rw (getD-drop at t 6 0) h in
+      let p = plain-rows x x others one-of (ordered-of .lone) g in (
+        plain-leaves (tableOf t) names (rowsWithin at e t) (subst (λ (l : List (List ℕ)). every isPlain l ≡ true) (sym rows-of) p),
+        subst (λ (l : List (List ℕ)). Ascends 1 (map leafOf l)) (sym rows-of) (ascending x x 1 others one-of (ordered-of .order) (ordered-of .proper) p (proper-of .leaf g .0)),
+      )
+
+  pub leaves-named : 10 ≤ getD t (at + 6) 0 → (names : ℕ → Text)
+      → leavesOf (tableOf t) names (ruleAt t at e) ≡ leavesNamed t (names (getD t (at + 6) 0 - 10))
+  leaves-named h names =
+      let x = drop at t in
+      let g : 10 ≤ getD x 6 0 = rw (getD-drop at t 6 0) h in
+      let only : rowsWithin at e t ≡ x ∷ [] = rows-of ∙ ap (λ (l : List (List ℕ)). x ∷ l) (named-alone x x others one-of (ordered-of .lone) g) in
+      ap (λ (l : List (List ℕ)). flatMap (leavesIn (tableOf t) names) (map listedOf l)) only
+      ∙ named-leaf (tableOf t) names x g
+      ∙ ap (λ (f : ℕ). leavesNamed t (names (f - 10))) (getD-drop at t 6 0)

@@ -1,0 +1,120 @@
+// Types, lists and names by their numbers in a table.
+ghost use mathlib.Core.Path.{_≡_};
+ghost use mathlib.Core.List.{[], _∷_};
+ghost use Rattle.text.specs.Bytes.{isOne};
+ghost use Rattle.profile.specs.Table.{ofType, among};
+ghost use Rattle.profile.specs.Lists.{oneEach};
+ghost use Rattle.profile.specs.Numbers.{simpleOf, codesOf, segmentNumber, typeNumber};
+use text::is_same;
+use types::is_dtm;
+use types::is_nm;
+use types::is_si;
+use types::is_tm;
+
+// Whether a text is of the simple type with that number.
+pub fn is_of_type(n: u16, s: &[u8]) -> bool
+    ensures { λ r. ⌜ r ≡ ofType (simpleOf n) (now (s .entry)) ⌝ }
+{
+    match n {
+        1 => is_si(s),
+        2 => is_nm(s),
+        3 => is_dtm(s),
+        4 => is_tm(s),
+        _ => true,
+    }
+}
+
+// Whether a text is one of these letters.
+fn is_letter(s: &[u8], letters: &[u8]) -> bool
+    ensures { λ r. ⌜ r ≡ isOne (now (s .entry)) (oneEach (now (letters .entry))) ⌝ }
+{
+    if s.len() != 1 {
+        return false;
+    }
+    let mut i = 0;
+    while i < letters.len() {
+        if letters[i] == s[0] {
+            return true;
+        }
+        i += 1;
+    }
+    false
+}
+
+// The number of the type that two letters name.
+fn two_letter_type(a: u8, b: u8) -> u16
+    ensures { λ r. ⌜ r ≡ typeNumber (a ∷ b ∷ []) ⌝ }
+{
+    if (a == b'C') & (b == b'E') {
+        return 8;
+    }
+    if (a == b'F') & (b == b'T') {
+        return 10;
+    }
+    if (a == b'N') & (b == b'M') {
+        return 11;
+    }
+    if (a == b'S') & (b == b'N') {
+        return 12;
+    }
+    if (a == b'S') & (b == b'T') {
+        return 13;
+    }
+    if (a == b'T') & (b == b'M') {
+        return 14;
+    }
+    if (a == b'T') & (b == b'X') {
+        return 15;
+    }
+    16
+}
+
+// The number of the type that a text names, 16 where it names none.
+pub fn type_number(s: &[u8]) -> u16
+    ensures { λ r. ⌜ r ≡ typeNumber (now (s .entry)) ⌝ }
+{
+    if s.len() == 2 {
+        return two_letter_type(s[0], s[1]);
+    }
+    if is_same(s, b"DTM") {
+        return 9;
+    }
+    16
+}
+
+// Whether a text is in the list with that number; list 0 takes any text.
+pub fn is_in_list(n: u16, s: &[u8]) -> bool
+    ensures { λ r. ⌜ r ≡ among (codesOf n) (now (s .entry)) ⌝ }
+{
+    match n {
+        0 => true,
+        1 => is_same(s, b"ORU"),
+        2 => is_same(s, b"R01"),
+        3 => is_letter(s, b"DPT"),
+        4 => is_same(s, b"2.5.1"),
+        5 => is_letter(s, b"AFMNOU"),
+        6 => is_letter(s, b"YN"),
+        7 => is_same(s, b"RE"),
+        8 => is_letter(s, b"ACFIOPRSXYZ"),
+        9 => type_number(s) < 16,
+        10 => is_letter(s, b"CDFINOPRSUWX"),
+        _ => false,
+    }
+}
+
+// The number of the segment with that name, 0 where none is listed.
+pub fn segment_number(a: u8, b: u8, c: u8) -> u16
+    ensures { λ r. ⌜ r ≡ segmentNumber (a ∷ b ∷ c ∷ []) ⌝ }
+{
+    let name = (a as u32) * 65536 + (b as u32) * 256 + c as u32;
+    match name {
+        0x4D5348 => 1, // MSH
+        0x504944 => 2, // PID
+        0x4E4B31 => 3, // NK1
+        0x4F5243 => 4, // ORC
+        0x4F4252 => 5, // OBR
+        0x4F4258 => 6, // OBX
+        0x4E5445 => 7, // NTE
+        _ => 0,
+    }
+}
