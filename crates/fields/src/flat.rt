@@ -6,12 +6,12 @@ ghost use Prim.Native.Nat.{ℕ, _≤_};
 ghost use Rattle.codes.specs.Inner.{Lists, leavesAt};
 ghost use Rattle.leaves.specs.Judged.{ReadsRepetition};
 ghost use Rattle.fields.specs.Judged.{ReadsField, isPlain, isFlat, passed, passedOnce};
+use codes::Rows;
 use cursor::advance;
 use cursor::first_piece;
 use leaves::leaf_reason;
 use leaves::missing_leaves;
 use leaves::takes_any;
-use codes::Rows;
 use text::Marks;
 
 // Whether a byte is none of the marks that make a field more than its components.

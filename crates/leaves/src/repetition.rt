@@ -12,10 +12,10 @@ ghost use Rattle.checks.specs.View.{entriesOf};
 ghost use Rattle.checks.specs.Fault.{repetitionChecks, firstBroken};
 ghost use Rattle.leaves.specs.Judged.{told, ReadsRepetition};
 use crate::rule::leaf_reason;
+use codes::Rows;
 use cursor::advance;
 use cursor::first_far;
 use parts::piece;
-use codes::Rows;
 use text::Marks;
 
 // Whether a repetition is filled; the reason of its first broken check, 0 where there is none, and the place of that leaf.

@@ -16,14 +16,14 @@ ghost use Rattle.checks.specs.Fault.{firstFilled, isRequired};
 ghost use Rattle.checks.specs.View.{fieldSeen, namedIn};
 ghost use Rattle.listing.specs.Listing.{HasNumber};
 ghost use Rattle.usage.specs.Listed.{fieldsSeen, leavesOfField};
-use cursor::advance;
-use cursor::first_piece;
-use fields::read_field;
-use parts::piece_end;
 use codes::Rows;
 use codes::field_end;
 use codes::rows_under;
 use codes::type_rows;
+use cursor::advance;
+use cursor::first_piece;
+use fields::read_field;
+use parts::piece_end;
 use text::Marks;
 
 // Where a segment's fields begin: the header's third behind its ninth byte, any other's first behind its name and one
