@@ -23,8 +23,10 @@ use Rattle.reader.proofs.Seek.{standing-missing, standing-inside, stand
 use Rattle.reader.specs.declared.Found as code-found
 use Rattle.checks.specs.Place.{place, leafAt, leafStart, textAt}
 use Rattle.reader.specs.LookUp.{Found, shown}
-use Rattle.seek.specs.Inner.{leafFound}
-use Rattle.reader.specs.Inner.{Inside}
+use Rattle.seek.specs.Inner.{leafFound, leafTold}
+use Rattle.seek.specs.declared.Seen.{Seen}
+use Rattle.seek.specs.declared.Seen.the-variants as seen
+use Rattle.reader.specs.Inner.{Inside, asFound}
 use Rattle.reader.specs.Part.{startOf, endOf}
 use Rattle.reader.specs.Told.{foundOf}
 use Rattle.reader.specs.Copied.{Stood, segmentText}
@@ -78,6 +80,17 @@ module _ (m : Text) (a e : ℕ) (l : a ≤ e) (h : e ≤ length m) (q : Marks) (
 leaf-none : (q : Marks) (f r c b : ℕ) → leafAt q [] f r c b ≡ []
 unfolding leafAt field same
 leaf-none q f r c b = rw (piece-nil (q .field) f) (part-nil (inField q r c b))
+
+-- what is seen of a leaf is a look-up's answer; along which case it is
+pub seen-told : (l : Seen) (t : Found) → leafTold l ≡ t → foundOf (asFound l) ≡ given t
+seen-told seen.Empty t h = ap given h
+seen-told (seen.Text a e) t h = ap given h
+
+pub seen-inside : (l k : Seen) (n : ℕ) → l ≡ k → Inside (asFound l) n → Inside (asFound k) n
+seen-inside l k n e w = subst (λ (x : Seen). Inside (asFound x) n) e w
+
+pub seen-part : (l k : Seen) (r m : Text) → l ≡ k → r ≡ within (startOf (asFound k)) (endOf (asFound k)) m → r ≡ within (startOf (asFound l)) (endOf (asFound l)) m
+seen-part l k r m e w = subst (λ (x : Seen). r ≡ within (startOf (asFound x)) (endOf (asFound x)) m) (sym e) w
 
 -- the leaf of a segment that stands there
 pub stood-inside : (m : Text) (s : Standing) (a e : ℕ) → s ≡ Segment a e → Stood m s → (a ≤ e) × (e ≤ length m)

@@ -25,7 +25,7 @@ use text::Refusal;
 use text::marks_of;
 
 // What is seen of a leaf, as a look-up's answer.
-pub fn shown(l: Seen) -> Found
+fn shown(l: Seen) -> Found
     ensures { λ r. ⌜ foundOf r ≡ given (leafTold l) ⌝ }
 {
     match l {
@@ -67,7 +67,7 @@ pub fn find(m: &[u8], p: Place) -> Found
 }
 
 // The very part of the message that was found: no bytes, at its start, where it is no text.
-pub fn text_of<'a>(m: &'a [u8], f: Found) -> &'a [u8]
+fn text_of<'a>(m: &'a [u8], f: Found) -> &'a [u8]
     requires { ⌜ Inside f (length (now m)) ⌝ }
     ensures { λ r. ⌜ VeryPart r (m .entry) (startOf f) (endOf f) ⌝ }
 {
