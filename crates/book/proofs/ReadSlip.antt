@@ -14,7 +14,7 @@ use Rattle.text.specs.Bytes.{Text, pick, within}
 use Rattle.text.specs.Answer.{Answer, refused, given, test, first}
 use Rattle.text.specs.declared.refusal.Refusal.the-variants.{NoSlot, BadSlip, NoTag}
 use Rattle.text.proofs.Tests.{both}
-use Rattle.slip.specs.Book.{noSlot}
+use Rattle.slip.specs.Slot.{noSlot}
 use Rattle.book.specs.declared.Value.{Value}
 use Rattle.book.specs.declared.Value.the-variants as code
 use Rattle.tags.specs.declared.Field.the-variants as field

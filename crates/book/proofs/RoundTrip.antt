@@ -18,9 +18,9 @@ use Rattle.escape.proofs.Escapes.{resolved-length}
 use Rattle.profile.specs.Profile.{profile01}
 use Rattle.reader.specs.Place.{place, textAt}
 use Rattle.reader.specs.Observations.{observationsOf}
-use Rattle.slip.specs.Slot.{Tagged, twoBytes}
+use Rattle.slip.specs.Slot.{Tagged, twoBytes, noSlot}
 use Rattle.slip.specs.Slip.{resolvedAt, slipValues, slipText}
-use Rattle.slip.specs.Book.{noSlot, file, bookAfter}
+use Rattle.slip.specs.Book.{file, bookAfter}
 use Rattle.slip.proofs.Fitting.{Taken, Filled, Fitting}
 use Rattle.slip.proofs.Answers.{slot-room}
 use Rattle.slip.proofs.Passed.{filed-room, filed-text, filed-fitting}

@@ -17,7 +17,7 @@ use Rattle.text.proofs.Answer.{passes-rest, given-passes, first-asked}
 use Rattle.reader.specs.Part.{VeryPart}
 use Rattle.book.specs.declared.Value.{Value}
 use Rattle.book.specs.declared.Value.the-variants as code
-use Rattle.slip.specs.Book.{noSlot}
+use Rattle.slip.specs.Slot.{noSlot}
 use Rattle.tags.specs.Fields.{size, value, hasTag, Expected, isThere, taken, isSlipFrom}
 use Rattle.book.specs.Read.{expected, isSlip, Part, span, valueFrom, isNone, orNothing, slot, readTests, readSlip}
 use Rattle.book.specs.Told.{valueOf, startOf, endOf}

@@ -10,8 +10,7 @@ use Rattle.text.specs.Answer.{Answer, Test, test, first}
 use Rattle.text.specs.declared.refusal.Refusal.the-variants.{NoSlot, BadSlip, NoTag}
 use Rattle.tags.specs.Fields.{Expected, size, hasTag, fieldOf, taken}
 unfoldable pub use Rattle.tags.specs.Fields.{isSlipFrom}
-use Rattle.slip.specs.Slot.{slotSize}
-use Rattle.slip.specs.Book.{noSlot}
+use Rattle.slip.specs.Slot.{slotSize, noSlot}
 
 -- the five in their order
 abbrev pub expected : List Expected

@@ -1,4 +1,4 @@
-// Four of the six entries, each called as it is, under the promise that the three demands are about; proofs/Contracts.antt has the other two.
+// Four of the six entries, each called as it is, under the promise that the three demands are about; demands/specs/Contracts.antt has the other two.
 // Nothing is asked of the caller. Where an entry came to promise less, or to ask for something first, this crate would no longer be proved,
 // and the demands would speak of nothing.
 ghost use Rattle.escape.specs.Promise.{Resolves};

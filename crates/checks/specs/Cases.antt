@@ -1,12 +1,15 @@
--- Verdicts on short messages, each the shortest that a wrong reading of 01 would judge otherwise.
+-- Verdicts and look-ups on short messages, each the shortest that a wrong reading of 01 would answer otherwise.
 use Prim.Native.Nat.{ℕ}
 use Prim.Native.String.{String}
 use mathlib.Core.Path.{_≡_}
 use mathlib.Core.List.{List, [], _∷_, map}
 use Rattle.text.specs.Bytes.{Text, bytes, cr}
+use Rattle.text.specs.Answer.{refused}
+use Rattle.text.specs.declared.refusal.Refusal.the-variants.{BadPlace, NoSegment}
 use Rattle.parts.specs.Split.{closed}
 use Rattle.profile.specs.Profile.{profile01}
 use Rattle.checks.specs.Place.{place}
+use Rattle.checks.specs.LookUp.{lookUp}
 use Rattle.checks.specs.Fault.{Verdict, accepted, fault, verdict}
 
 pub record Case : Type 0 where
@@ -80,3 +83,9 @@ cases =
 -- THE DEFINITION SAYS SO of each
 abbrev pub CasesHold : Type 0
 CasesHold = map told cases ≡ map wanted cases
+
+-- a place that may not be asked for is told before a segment that is not there
+abbrev pub PlaceBeforeSegment : Type 0
+PlaceBeforeSegment =
+    (lookUp (closed cr (bytes msh ∷ [])) (place (bytes "ZZX") 513 1 1 1 1) ≡ refused BadPlace)
+    × (lookUp (closed cr (bytes msh ∷ [])) (place (bytes "ZZX") 512 1 1 1 1) ≡ refused NoSegment)

@@ -40,8 +40,7 @@ use Rattle.reader.proofs.Unique.{verdict-same}
 use Rattle.reply.specs.Reply.{noControl, replyText, replyTests, reply}
 use Rattle.reply.specs.Promise.{Replies}
 use Rattle.reply.proofs.Bound.{reply-bound}
-use Rattle.slip.specs.Slot.{slotSize}
-use Rattle.slip.specs.Book.{noSlot}
+use Rattle.slip.specs.Slot.{slotSize, noSlot}
 use Rattle.book.specs.declared.Value as code-value
 use Rattle.book.specs.declared.reading.SlipValue.{SlipValue}
 use Rattle.book.specs.Read.{Part, expected, isSlip, valueFrom, isNone, orNothing, slot, readTests, readSlip}

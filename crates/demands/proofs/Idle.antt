@@ -14,10 +14,10 @@ use Rattle.reader.specs.Told.{verdictOf}
 use Rattle.reader.proofs.Unique.{verdict-same}
 use Rattle.slip.specs.declared.Filed.{Filed}
 use Rattle.slip.specs.declared.Filed.the-variants.{Slip}
-use Rattle.slip.specs.Slot.{twoBytes}
+use Rattle.slip.specs.Slot.{twoBytes, noSlot}
 use Rattle.reader.specs.Observations.{observationsOf}
 use Rattle.slip.specs.Slip.{resolvedAt, slipText, slipValues}
-use Rattle.slip.specs.Book.{noGroup, noSlot, bookAfter}
+use Rattle.slip.specs.Book.{noGroup, bookAfter}
 use Rattle.slip.specs.Inner.{ownFiling, FilesOwn}
 use Rattle.slip.specs.Promise.{Files}
 use Rattle.slip.proofs.Answers.{files-own}

@@ -1,3 +1,4 @@
+pub mod Contracts
 pub mod Judged
 pub mod Demand1
 pub mod Counts

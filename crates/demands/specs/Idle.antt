@@ -14,10 +14,9 @@ use Rattle.reader.specs.declared.Verdict.the-variants.{Accepted}
 use Rattle.reader.specs.Promise.{Judges}
 use Rattle.slip.specs.declared.Filed.{Filed}
 use Rattle.slip.specs.declared.Filed.the-variants.{Slip}
-use Rattle.slip.specs.Slot.{twoBytes}
+use Rattle.slip.specs.Slot.{twoBytes, noSlot}
 use Rattle.reader.specs.Observations.{observationsOf}
 use Rattle.slip.specs.Slip.{resolvedAt}
-use Rattle.slip.specs.Book.{noSlot}
 use Rattle.slip.specs.Promise.{Files}
 use Rattle.book.specs.declared.reading.SlipValue.{SlipValue}
 use Rattle.book.specs.Read.{slot}

@@ -1,6 +1,7 @@
 pub use Rattle.striking.specs.Strike
 pub use Rattle.striking.specs.Fit
 pub use Rattle.striking.specs.Striking
+pub mod Contracts
 pub mod Demand1
 pub mod Idle
 pub mod Demand2

@@ -2,21 +2,22 @@
 use mathlib.Core.Path.{_≡_, refl, sym, ap, _∙_}
 use Prim.Native.Nat.{ℕ, _+_}
 use native.Mathlib.Omega.{arith}
-use mathlib.Core.Bool.{Bool, true, false, _&&_, _||_}
-use mathlib.Core.List.{List, [], _∷_, _++_, append-assoc, append-nil}
+use mathlib.Core.Bool.{Bool, true, false, not, _||_}
+use mathlib.Core.List.{[], _∷_, _++_, append-assoc, append-nil}
 use lib.ListN.{length, length-append}
 use lib.Dec.{ltb}
 use borrow.Author.Tests.{lt-ltb}
 use Rattle.text.specs.Bytes.{Text, pick, bytes, byte, cr, empty, isOne}
 use Rattle.text.specs.declared.marks.Marks.{Marks}
 use Rattle.text.specs.Marks.{usual, marksOf}
-use Rattle.parts.specs.Split.{led, join}
+use Rattle.parts.specs.Split.{led, join, trimmed}
+use Rattle.parts.proofs.Trim.{trimmed-join, trimmed-led, trimmed-left, trimmed-none, none-left}
 use Rattle.reader.specs.declared.standing.Standing.{Standing}
 use Rattle.profile.specs.Lists.{processing-ids}
 use Rattle.reader.specs.Place.{leafAt}
 use Rattle.reader.specs.Copied.{segmentText}
 use Rattle.reader.proofs.Copied.{copied-text}
-use Rattle.heading.specs.Header.{headerLeaf, trimmed, orEmpty, copiedHD, processing, replyHeader}
+use Rattle.heading.specs.Header.{headerLeaf, orEmpty, copiedHD, processing, replyHeader}
 use Rattle.heading.specs.Inner.{IsHeader, ended}
 
 -- the length of texts that stand one behind another
@@ -31,25 +32,26 @@ length-five a b c d e = simp length-append
 
 -- the second and the third component of an HD, each behind its separator, where it or a later one is filled
 abbrev second : Text → Text → Text
-second b c = pick (ltb 0 (length b) || ltb 0 (length c)) (byte "^" ∷ b) []
+second b c = pick (ltb 0 (length c) || ltb 0 (length b)) (byte "^" ∷ b) []
 
 abbrev third : Text → Text
 third c = pick (ltb 0 (length c)) (byte "^" ∷ c) []
 
-filled : (x : ℕ) (t : Text) → ltb 0 (length (x ∷ t)) ≡ true
-filled x t = lt-ltb 0 (length (x ∷ t)) (omega arith)
-
-kept : (p : Text) (ps : List Text) → pick (empty p && false) [] ps ≡ ps
-kept [] ps = refl
-kept (x ∷ p) ps = refl
+filled : (t : Text) → not (empty t) ≡ ltb 0 (length t)
+filled [] = refl
+filled (x ∷ t) = sym (lt-ltb 0 (length (x ∷ t)) (omega arith))
 
 joined : (a b c : Text) → (a ++ second b c) ++ third c ≡ join (usual .component) (trimmed (a ∷ b ∷ c ∷ []))
-unfolding join led trimmed
-joined [] [] [] = refl
-joined (x ∷ a) [] [] = simp append-nil
-joined a [] (z ∷ c) = rw (filled z c, kept a (a ∷ [] ∷ (z ∷ c) ∷ [])) (simp (append-assoc, append-nil))
-joined a (y ∷ b) [] = rw (filled y b, kept a (a ∷ (y ∷ b) ∷ [])) (simp (append-assoc, append-nil))
-joined a (y ∷ b) (z ∷ c) = rw (filled y b, filled z c, kept a (a ∷ (y ∷ b) ∷ (z ∷ c) ∷ [])) (simp (append-assoc, append-nil))
+joined a b c =
+    sym
+    (trimmed-join (byte "^") a (b ∷ c ∷ [])
+    ∙ rw (
+      trimmed-led b (c ∷ []) (filled b) (trimmed-left c [] (filled c) none-left) (byte "^"),
+      trimmed-led c [] (filled c) none-left (byte "^"),
+      trimmed-none (byte "^"),
+      append-nil (third c),
+      append-assoc a (second b c) (third c),
+    ))
 
 -- AN HD AS IT IS COPIED, component by component, and how long it is
 pub record Copies (m : Text) (f : ℕ) (a b c : Text) : Type 0 where

@@ -1,13 +1,13 @@
 -- The reply's header: its exact bytes, of the message's own header, a stamp and a reply number.
 use Prim.Native.Nat.{ℕ}
-use mathlib.Core.Bool.{_&&_, _||_}
+use mathlib.Core.Bool.{_||_}
 use mathlib.Core.List.{List, [], _∷_, _++_}
-use Rattle.text.specs.Bytes.{Text, pick, bytes, empty, isOne}
+use Rattle.text.specs.Bytes.{Text, pick, bytes, isOne}
 use Rattle.text.specs.declared.marks.Marks.{Marks}
 use Rattle.text.specs.Marks.{usual, marksOf}
 use Rattle.escape.specs.Escape.{badEscape}
 use Rattle.text.specs.Limits.{tooLong}
-use Rattle.parts.specs.Split.{join}
+use Rattle.parts.specs.Split.{join, trimmed}
 use Rattle.frame.specs.Frame.{header}
 use Rattle.profile.specs.Table.{limitOf, IS, ST, ID}
 use Rattle.profile.specs.Lists.{processing-ids}
@@ -16,11 +16,6 @@ use Rattle.reader.specs.Place.{place, textAt}
 -- component c of a header field: the written leaf of repetition 1
 abbrev pub headerLeaf : Text → ℕ → ℕ → Text
 headerLeaf m f c = textAt m (place (bytes "MSH") 1 f 1 c 1)
-
--- empty texts at the end dropped
-unfoldable pub trimmed : List Text → List Text
-trimmed [] = []
-trimmed (p ∷ ps) = let r = trimmed ps in pick (empty p && empty r) [] (p ∷ r)
 
 -- an HD leaf too long or with a bad escape is left empty
 abbrev pub orEmpty : Marks → ℕ → Text → Text

@@ -58,7 +58,7 @@ fn put_hd(out: &mut [u8], at: usize, m: &[u8], header: Standing, field: u64) -> 
     let second = or_empty(q, 199, text_in(m, header, field, 2));
     let third = or_empty(q, 20, text_in(m, header, field, 3));
     let a = put(out, at, first);
-    let b = put_component(out, a, (0 < second.len()) | (0 < third.len()), second);
+    let b = put_component(out, a, (0 < third.len()) | (0 < second.len()), second);
     let c = put_component(out, b, 0 < third.len(), third);
     put(out, c, b"|")
 }

@@ -132,6 +132,10 @@ ltb-some : (t : Text) (a e : ℕ) → e ≡ a + length t → ltb a e ≡ not (em
 ltb-some [] a e h = le-ltb a e (omega (arith, h))
 ltb-some (b ∷ t) a e h = lt-ltb a e (omega (arith, h))
 
+-- a piece lies in its text, whatever the separator
+pub piece-inside : (n : ℕ) (t : Text) (sep : ℕ) {p : Span} → p ≡ span (start sep n t) (piece n (split sep t)) → (p .start ≤ p .end) × (p .end ≤ length t)
+piece-inside n t sep found = rw found (omega arith, piece-le sep n t)
+
 -- a subcomponent of the component that a cursor stands at
 module _ (q : Marks) (s : Text) (c : Cursor) (h : IsPiece (q .component) s c) (b : ℕ) (p : Span) (found : p ≡ span (start (q .subcomponent) b (within (c .start) (c .end) s)) (piece b (split (q .subcomponent) (within (c .start) (c .end) s)))) where
   abbrev component : Text
@@ -139,9 +143,6 @@ module _ (q : Marks) (s : Text) (c : Cursor) (h : IsPiece (q .component) s c) (b
 
   ends : p .end ≡ p .start + length (piece b (split (q .subcomponent) component))
   ends = rw found
-
-  leaf-inside : (p .start ≤ p .end) × (p .end ≤ length component)
-  leaf-inside = rw found (omega arith, piece-le (q .subcomponent) b component)
 
   leaf-is : piece b (split (q .subcomponent) component) ≡ leafOf q false s (c .number) b
   unfolding part
@@ -233,9 +234,6 @@ module _ {s : Text} {q : Marks} {t : List ℕ} where
 
         fills : ltb (p .start) (p .end) ≡ not (empty text)
         fills = rw (← same-leaf) (leaf-some q s d (moved .0) (getD t (at + 3) 0) p found-at)
-
-        pub reading-inside : (p .start ≤ p .end) × (p .end ≤ length (within (d .start) (d .end) s))
-        reading-inside = leaf-inside q s d (moved .0) (getD t (at + 3) 0) p found-at
 
         ascends-on : Ascends (d .number) rest
         ascends-on = rw (moved .1, ← getD-drop at t 2 0) (rise .2)

@@ -24,9 +24,11 @@ fn fault_numbers(f: Fault) -> [u64; 10]
     ensures { λ r. ⌜ r ≡ verdictNumbers (fault (placeOf (f .place)) (f .reason)) ⌝ }
 {
     let p = f.place;
+    let reason = f.reason as u64;
+    let code = condition(f.reason) as u64;
     [
-        f.reason as u64,
-        condition(f.reason) as u64,
+        reason,
+        code,
         p.first as u64,
         p.second as u64,
         p.third as u64,

@@ -1,5 +1,6 @@
 pub mod Split
 pub mod Join
+pub mod Trim
 pub mod Descent
 pub mod Reach
 pub mod Depth

@@ -1,10 +1,10 @@
 -- The one splitting rule: a text is cut at each separator into pieces, numbered from 1.
 use Prim.Native.Nat.{ℕ, zero, suc}
-use mathlib.Core.Bool.{Bool, true, false}
+use mathlib.Core.Bool.{Bool, true, false, _&&_}
 use mathlib.Core.List.{List, [], _∷_, _++_, dropLast}
 use lib.ListN.{getD}
 use lib.Dec.{eqb}
-use Rattle.text.specs.Bytes.{Text, pick}
+use Rattle.text.specs.Bytes.{Text, pick, empty}
 
 -- a byte in front of the pieces: a separator opens an empty piece, any other byte joins the first piece
 abbrev pub front : Bool → ℕ → List Text → List Text
@@ -54,3 +54,8 @@ join sep (p ∷ ps) = p ++ led sep ps
 unfoldable pub closed : ℕ → List Text → Text
 closed sep [] = []
 closed sep (p ∷ ps) = p ++ sep ∷ closed sep ps
+
+-- empty texts at the end dropped
+unfoldable pub trimmed : List Text → List Text
+trimmed [] = []
+trimmed (p ∷ ps) = let r = trimmed ps in pick (empty p && empty r) [] (p ∷ r)

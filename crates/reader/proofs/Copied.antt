@@ -22,7 +22,7 @@ use Rattle.reader.specs.Copied.{standing}
 use Rattle.reader.proofs.Seek.{standing-missing, standing-inside, standing-text}
 use Rattle.reader.specs.declared.Found as code-found
 use Rattle.checks.specs.Place.{place, leafAt, leafStart, textAt}
-use Rattle.reader.specs.LookUp.{Found, shown}
+use Rattle.checks.specs.LookUp.{Found, shown}
 use Rattle.seek.specs.Inner.{leafFound, leafTold}
 use Rattle.seek.specs.declared.Seen.{Seen}
 use Rattle.seek.specs.declared.Seen.the-variants as seen

@@ -29,7 +29,7 @@ use Rattle.reader.specs.Copied.{standing}
 use Rattle.reader.proofs.Seek.{standing-missing, standing-enough, standing-start, standing-inside, standing-text}
 use Rattle.reader.specs.declared.Place as code
 use Rattle.reader.specs.declared.Found as code-found
-use Rattle.reader.specs.LookUp.{Found, Text-from-to, shown, found, tooFew, lookUpTests, lookUp}
+use Rattle.checks.specs.LookUp.{Found, Text-from-to, shown, found, tooFew, lookUpTests, lookUp}
 use Rattle.seek.specs.Inner.{leafFound}
 use Rattle.reader.specs.Told.{placeOf, foundOf}
 use Rattle.reader.specs.Inner.{Inside}

@@ -12,7 +12,7 @@ use Rattle.reader.specs.declared.Place as code
 use Rattle.reader.specs.declared.Found as code-found
 use Rattle.reader.specs.declared.search.LookedUp.{LookedUp}
 use Rattle.checks.specs.Place.{Place, textAt, startAt}
-use Rattle.reader.specs.LookUp.{Text-from-to, found, lookUpTests, lookUp}
+use Rattle.checks.specs.LookUp.{Text-from-to, found, lookUpTests, lookUp}
 use Rattle.reader.specs.Told.{placeOf, foundOf}
 use Rattle.reader.specs.Part.{startOf, endOf}
 use Rattle.reader.specs.Promise.{LooksUp}

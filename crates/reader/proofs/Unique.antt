@@ -12,7 +12,7 @@ use Rattle.reader.specs.declared.Found.the-variants as found
 use Rattle.reader.specs.declared.Verdict.{Verdict}
 use Rattle.reader.specs.declared.Verdict.the-variants as verdict
 use Rattle.reader.specs.declared.search.LookedUp.{LookedUp}
-use Rattle.reader.specs.LookUp.{lookUp}
+use Rattle.checks.specs.LookUp.{lookUp}
 use Rattle.reader.specs.Told.{placeOf, foundOf, verdictOf}
 use Rattle.reader.specs.Part.{VeryPart, SamePart, startOf, endOf}
 use Rattle.reader.specs.Promise.{LooksUp, Judges}

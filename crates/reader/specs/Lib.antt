@@ -1,8 +1,8 @@
 pub use Rattle.groups.specs.Observations
 pub use Rattle.checks.specs.Place
+pub use Rattle.checks.specs.LookUp
 pub use Rattle.checks.specs.View
 pub use Rattle.checks.specs.Fault
-pub mod LookUp
 pub mod Told
 pub mod Part
 pub mod Promise

@@ -6,7 +6,7 @@ use Rattle.reader.specs.declared.Place as code
 use Rattle.profile.specs.Table.{Table}
 use Rattle.reader.specs.declared.search.LookedUp.{LookedUp}
 use Rattle.reader.specs.declared.Verdict.{Verdict}
-use Rattle.reader.specs.LookUp.{lookUp}
+use Rattle.checks.specs.LookUp.{lookUp}
 use Rattle.checks.specs.Fault.{judge}
 use Rattle.reader.specs.Told.{placeOf, foundOf, verdictOf}
 use Rattle.reader.specs.Part.{VeryPart, startOf, endOf}

@@ -5,7 +5,7 @@ use Rattle.reader.specs.declared.Place as code-place
 use Rattle.reader.specs.declared.Found as code-found
 use Rattle.reader.specs.declared.Verdict as code-verdict
 use Rattle.checks.specs.Place.{Place, place}
-use Rattle.reader.specs.LookUp.{Found, Empty, Text-from-to}
+use Rattle.checks.specs.LookUp.{Found, Empty, Text-from-to}
 use Rattle.checks.specs.Fault.{Verdict, accepted, fault}
 
 abbrev pub placeOf : code-place.Place → Place

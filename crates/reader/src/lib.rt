@@ -8,7 +8,6 @@ mod texts;
 pub use checks::condition;
 pub use groups::observations;
 pub use judging::judge;
-pub use places::is_place;
 pub use search::LookedUp;
 pub use search::find;
 pub use search::look_up;

@@ -5,7 +5,7 @@ ghost use Prim.Native.Nat.{_≤_};
 ghost use lib.ListN.{length};
 ghost use Rattle.text.specs.Answer.{test, first, given};
 ghost use Rattle.text.specs.declared.refusal.Refusal.the-variants.{NoSegment};
-ghost use Rattle.reader.specs.LookUp.{tooFew, found, lookUp};
+ghost use Rattle.checks.specs.LookUp.{tooFew, found, lookUp};
 ghost use Rattle.reader.specs.Told.{placeOf, foundOf};
 ghost use Rattle.reader.specs.Promise.{LooksUp};
 ghost use Rattle.reader.specs.Inner.{Inside};

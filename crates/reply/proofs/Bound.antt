@@ -16,7 +16,7 @@ use Rattle.text.specs.Limits.{tooLong, _to_, isWithin}
 use Rattle.text.proofs.Tests.{not-true, both, picks, same-true}
 use Rattle.text.proofs.Lists.{All, or-either, or-none}
 use Rattle.text.proofs.Digits.{decimal-length}
-use Rattle.parts.specs.Split.{led, join, closed}
+use Rattle.parts.specs.Split.{led, join, closed, trimmed}
 use Rattle.frame.specs.Frame.{header}
 use Rattle.profile.specs.Table.{Table, limitOf, IS, ST, ID}
 use Rattle.profile.specs.Lists.{processing-ids}
@@ -24,7 +24,7 @@ use Rattle.profile.specs.Fields.{controlLimit}
 use Rattle.profile.specs.Profile.{profile01}
 use Rattle.reader.specs.Place.{Place}
 use Rattle.reader.specs.Fault.{Verdict, accepted, fault, verdict, condition}
-use Rattle.heading.specs.Header.{headerLeaf, trimmed, orEmpty, copiedHD, processing, headerFields, replyHeader}
+use Rattle.heading.specs.Header.{headerLeaf, orEmpty, copiedHD, processing, headerFields, replyHeader}
 use Rattle.report.specs.Error.{code, orNone, placeText, conditionText, replyERR}
 use Rattle.reply.specs.Reply.{control, noControl, replyMSA, replyText}
 use Rattle.reply.proofs.Small.{Small, SmallVerdict, smallTable, profile-small, verdict-small}

@@ -30,7 +30,6 @@ use Rattle.reader.specs.declared.Verdict.the-variants as code
 use Rattle.reader.specs.Fault.{Verdict, accepted, fault, verdict, judge}
 use Rattle.reader.specs.Told.{placeOf, verdictOf}
 use Rattle.heading.specs.Header.{replyHeader}
-use Rattle.heading.specs.Inner.{ended}
 use Rattle.report.specs.Error as error
 use Rattle.report.specs.Error.{replyERR}
 use Rattle.report.specs.Inner.{codeOf, errorOf}
@@ -42,7 +41,7 @@ use Rattle.reply.proofs.Bound.{reply-bound}
 
 -- the header, MSA and what follows it
 msa-step : (h a k : Text) (es : List Text)
-    → (h ++ cr ∷ []) ++ ((bytes "MSA|" ++ ended a) ++ (k ++ (cr ∷ closed cr es))) ≡ closed cr (h ∷ join (usual .field) (bytes "MSA" ∷ a ∷ k ∷ []) ∷ es)
+    → (h ++ cr ∷ []) ++ ((bytes "MSA|" ++ a ++ bytes "|") ++ (k ++ (cr ∷ closed cr es))) ≡ closed cr (h ∷ join (usual .field) (bytes "MSA" ∷ a ∷ k ∷ []) ∷ es)
 unfolding closed join led
 msa-step h a k es =
     simp (append-assoc, append-nil)

@@ -2,8 +2,8 @@
 use mathlib.Core.Path.{_≡_, refl, sym, ap, _∙_}
 use Prim.Native.Nat.{ℕ, zero, suc, _+_, _≤_, _<_, _/_, _%_}
 use native.Mathlib.Omega.{arith}
-use mathlib.Core.Bool.{Bool, true, false, not, _&&_, _||_}
-use mathlib.Core.List.{List, [], _∷_, _++_, append-assoc, append-nil}
+use mathlib.Core.Bool.{Bool, true, false, not, _||_}
+use mathlib.Core.List.{[], _∷_, _++_, append-assoc, append-nil}
 use lib.ListN.{length, length-append}
 use lib.Dec.{eqb, ltb}
 use borrow.Author.Tests.{lt-ltb, le-ltb, ne-eqb, not-true, not-false}
@@ -12,6 +12,7 @@ use Rattle.text.specs.Decimal.{digitsBefore, decimal}
 use Rattle.text.specs.Puts.{Puts}
 use Rattle.text.specs.Marks.{usual}
 use Rattle.parts.specs.Split.{led, join, closed}
+use Rattle.parts.proofs.Trim.{trimmed-join, trimmed-led, trimmed-left, trimmed-none, none-left}
 use Rattle.reader.specs.declared.Fault.{Fault}
 use Rattle.reader.specs.declared.Verdict.{Verdict}
 use Rattle.reader.specs.declared.Verdict.the-variants as verdict
@@ -19,7 +20,6 @@ use Rattle.reader.specs.declared.Place as code-place
 use Rattle.reader.specs.Place.{Place}
 use Rattle.reader.specs.Told.{placeOf}
 use Rattle.reader.specs.Fault.{condition}
-use Rattle.heading.specs.Header.{trimmed}
 use Rattle.report.specs.Error.{orNone, placeText, conditionText}
 use Rattle.report.specs.Inner.{codeOf, conditionWords, errorText}
 
@@ -55,21 +55,6 @@ above zero = refl
 above (suc n) =
     rw (ne-eqb (suc n) 0 (λ e. omega arith), lt-ltb 0 (suc n) (omega arith), digits-some 19 (suc n) [])
 
--- a text before others that are trimmed: it stays where it has bytes, or something is left of those
-trim-led : (sep : ℕ) (p : Text) (r : List Text)
-    → led sep (pick (empty p && empty r) [] (p ∷ r)) ≡ pick (not (empty r) || not (empty p)) (sep ∷ p) [] ++ led sep r
-unfolding led
-trim-led sep [] [] = refl
-trim-led sep [] (q ∷ r) = refl
-trim-led sep (b ∷ p) [] = refl
-trim-led sep (b ∷ p) (q ∷ r) = refl
-
-trim-filled : (p : Text) (r : List Text) → not (empty (pick (empty p && empty r) [] (p ∷ r))) ≡ not (empty r) || not (empty p)
-trim-filled [] [] = refl
-trim-filled [] (q ∷ r) = refl
-trim-filled (b ∷ p) [] = refl
-trim-filled (b ∷ p) (q ∷ r) = refl
-
 -- a number of a place behind its separator
 abbrev numbered : Bool → ℕ → Text
 numbered w n = pick w (byte "^" ∷ orNone n) []
@@ -86,28 +71,6 @@ module _ (w : Bool) (n : ℕ) where
 
   pub numbered-some : not w ≡ false → (n ≡ 0 → ⊥) → numbered w n ≡ byte "^" ∷ decimal n
   numbered-some h e = rw (not-false w h, ne-eqb n 0 e)
-
-module _ (n : ℕ) (ps : List Text) (w : Bool) (h : not (empty (trimmed ps)) ≡ w) where
-  number-filled : not (empty (trimmed (orNone n ∷ ps))) ≡ w || ltb 0 n
-  unfolding trimmed
-  number-filled = trim-filled (orNone n) (trimmed ps) ∙ rw (h, above n)
-
-  number-led : led (byte "^") (trimmed (orNone n ∷ ps)) ≡ numbered (w || ltb 0 n) n ++ led (byte "^") (trimmed ps)
-  unfolding trimmed
-  number-led = trim-led (byte "^") (orNone n) (trimmed ps) ∙ rw (h, above n)
-
-place-joined : (x y z : ℕ) (ps : List Text)
-    → join (byte "^") (trimmed ((x ∷ y ∷ z ∷ []) ∷ ps)) ≡ (x ∷ y ∷ z ∷ []) ++ led (byte "^") (trimmed ps)
-unfolding join trimmed
-place-joined x y z ps = refl
-
-none-led : led (byte "^") (trimmed []) ≡ []
-unfolding led trimmed
-none-led = refl
-
-none-filled : not (empty (trimmed [])) ≡ false
-unfolding trimmed
-none-filled = refl
 
 -- A PLACE: its name, and each number that is above nought or has such a one behind it
 module _ (p : code-place.Place) where
@@ -138,19 +101,19 @@ module _ (p : code-place.Place) where
       let p2 = orNone (p .component) ∷ p1 in
       let p3 = orNone (p .repetition) ∷ p2 in
       let p4 = orNone (p .field) ∷ p3 in
-      let h1 = number-filled (p .subcomponent) [] false none-filled in
-      let h2 = number-filled (p .component) p1 e h1 in
-      let h3 = number-filled (p .repetition) p2 d h2 in
-      let h4 = number-filled (p .field) p3 c h3 in
+      let h1 = trimmed-left (orNone (p .subcomponent)) [] (above (p .subcomponent)) none-left in
+      let h2 = trimmed-left (orNone (p .component)) p1 (above (p .component)) h1 in
+      let h3 = trimmed-left (orNone (p .repetition)) p2 (above (p .repetition)) h2 in
+      let h4 = trimmed-left (orNone (p .field)) p3 (above (p .field)) h3 in
       sym
-      (place-joined (p .first) (p .second) (p .third) (orNone (p .occurrence) ∷ p4)
+      (trimmed-join (byte "^") name (orNone (p .occurrence) ∷ p4)
       ∙ rw (
-        number-led (p .occurrence) p4 b h4,
-        number-led (p .field) p3 c h3,
-        number-led (p .repetition) p2 d h2,
-        number-led (p .component) p1 e h1,
-        number-led (p .subcomponent) [] false none-filled,
-        none-led,
+        trimmed-led (orNone (p .occurrence)) p4 (above (p .occurrence)) h4 (byte "^"),
+        trimmed-led (orNone (p .field)) p3 (above (p .field)) h3 (byte "^"),
+        trimmed-led (orNone (p .repetition)) p2 (above (p .repetition)) h2 (byte "^"),
+        trimmed-led (orNone (p .component)) p1 (above (p .component)) h1 (byte "^"),
+        trimmed-led (orNone (p .subcomponent)) [] (above (p .subcomponent)) none-left (byte "^"),
+        trimmed-none (byte "^"),
         append-nil (numbered e (p .subcomponent)),
       ))
 

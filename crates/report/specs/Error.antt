@@ -5,10 +5,9 @@ use lib.Dec.{eqb, ltb}
 use Rattle.text.specs.Bytes.{Text, pick, bytes}
 use Rattle.text.specs.Decimal.{decimal}
 use Rattle.text.specs.Marks.{usual}
-use Rattle.parts.specs.Split.{join}
+use Rattle.parts.specs.Split.{join, trimmed}
 use Rattle.reader.specs.Place.{Place}
 use Rattle.reader.specs.Fault.{Verdict, accepted, fault, condition}
-use Rattle.heading.specs.Header.{trimmed}
 
 -- AE below condition 200, AR from 200, else AA
 abbrev pub code : Verdict → Text

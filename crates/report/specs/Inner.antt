@@ -10,14 +10,13 @@ use Rattle.reader.specs.declared.Verdict.the-variants as verdict
 use Rattle.reader.specs.Place.{Place}
 use Rattle.reader.specs.Fault.{accepted, fault, condition}
 use Rattle.reader.specs.Told.{placeOf}
-use Rattle.heading.specs.Inner.{ended}
 use Rattle.report.specs.Error.{code, conditionText, replyERR}
 
 -- MSA up to the control number; a refusal has none
 abbrev pub codeOf : Verdict → Text
 codeOf (verdict.Refused r) = []
-codeOf verdict.Accepted = bytes "MSA|" ++ ended (code accepted)
-codeOf (verdict.Fault f) = bytes "MSA|" ++ ended (code (fault (placeOf (f .place)) (f .reason)))
+codeOf verdict.Accepted = bytes "MSA|" ++ code accepted ++ bytes "|"
+codeOf (verdict.Fault f) = bytes "MSA|" ++ code (fault (placeOf (f .place)) (f .reason)) ++ bytes "|"
 
 -- a condition, its text and its table
 abbrev pub conditionWords : ℕ → Text

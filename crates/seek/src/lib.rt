@@ -1,4 +1,7 @@
-// Where the leaf of a segment lies. All functions here are inner: their callers hold that the segment lies in the message.
+// Where the leaf of a segment lies, and which places may be asked for. The functions of this file are inner: their callers hold that the segment lies in
+// the message.
+mod places;
+
 ghost use mathlib.Core.Path.{_≡_};
 ghost use mathlib.Core.Bool.{true};
 ghost use Prim.Native.Nat.{ℕ, _+_, _-_, _≤_, _<_, min};
@@ -12,6 +15,7 @@ use frame::is_header;
 use parts::Numbers;
 use parts::Span;
 use parts::descend;
+pub use places::may_be_asked;
 use text::Marks;
 
 // What is seen of a leaf: Empty, or the message's bytes from start up to end.

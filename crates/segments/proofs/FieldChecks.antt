@@ -21,10 +21,10 @@ use Rattle.checks.specs.View.{Repetition, Field, filledFrom, fieldSeen, segment
 use Rattle.checks.specs.Fault.{Verdict, accepted, firstFilled, isRequired, repetitionChecks, fieldChecks, firstBroken}
 use Rattle.listing.specs.Listing.{HasNumber}
 use Rattle.segments.specs.Judged.{toldAt, atRepetition, ReadsFieldAt}
-use Rattle.usage.specs.Listed.{leavesOfField}
+use Rattle.located.specs.Listed.{leavesOfField}
 use Rattle.fields.specs.Judged.{repetitionsIn, filledIn, ReadsField}
 use Rattle.usage.proofs.FieldSeen as seen
-use Rattle.usage.proofs.FieldText.{seen-surplus, seen-filled}
+use Rattle.usage.proofs.FieldSeen.{seen-surplus, seen-filled}
 
 -- an optional field is not required
 pub usage-none : (u : ℕ) (vs : List Field) → u ≡ 0 → false ≡ isRequired (usageOf u) vs

@@ -23,7 +23,7 @@ use Rattle.leaves.specs.Judged.{told}
 use Rattle.listing.specs.Listing.{HasNumber}
 use Rattle.segments.specs.Judged.{toldAt, atRepetition, ReadsFieldAt, ReadsSegment}
 use Rattle.leaves.proofs.Breaks.{orElse, broken-append}
-use Rattle.usage.proofs.FieldText.{before-field, field-at}
+use Rattle.located.proofs.FieldText.{before-field, field-at}
 use Rattle.segments.proofs.FieldChecks.{none-missing, none-passes}
 use Rattle.usage.proofs.SegmentFields.{Left, seenFrom, left-first, seen-all, on-number, on-later, left-on, seen-on, seen-none}
 

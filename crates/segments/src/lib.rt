@@ -21,11 +21,11 @@ use cursor::first_piece;
 use fields::flat_passes;
 use fields::is_flat;
 use fields::read_field;
+use located::fields_before;
+use located::fields_start;
+use located::leaf_rows;
 use text::Marks;
-use usage::fields_before;
-use usage::fields_start;
 use usage::is_required;
-use usage::leaf_rows;
 
 // The reason of a segment's first broken check, 0 where there is none, and the place of it in the segment.
 pub struct Finding {

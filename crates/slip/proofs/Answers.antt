@@ -24,11 +24,11 @@ use Rattle.reader.specs.declared.Fault as code-fault
 use Rattle.reader.specs.declared.Verdict as code-verdict
 use Rattle.reader.specs.Fault.{Verdict, verdict, accepted, fault, judge}
 use Rattle.reader.specs.Told.{placeOf, verdictOf}
-use Rattle.slot.specs.Slot.{slotSize}
+use Rattle.slot.specs.Slot.{slotSize, noSlot}
 use Rattle.slip.specs.declared.Filed.{Filed}
 use Rattle.slip.specs.declared.Filed.the-variants.{Refused, Slip}
 use Rattle.slip.specs.Slip.{slipText}
-use Rattle.slip.specs.Book.{ownTests, isAccepted, noGroup, noSlot, file, bookAfter}
+use Rattle.slip.specs.Book.{ownTests, isAccepted, noGroup, file, bookAfter}
 use Rattle.slip.specs.Told.{done, filedOf}
 use Rattle.slip.specs.Inner.{IsOrder, ownFiling, FilesOwn}
 use Rattle.slip.specs.Promise.{Files}

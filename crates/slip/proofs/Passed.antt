@@ -18,7 +18,8 @@ use Rattle.frame.specs.Segments.{segments, ofName, fewer}
 use Rattle.profile.specs.Profile.{profile01}
 use Rattle.reader.specs.Fault.{Verdict, accepted, fault, verdict}
 use Rattle.slip.specs.Slip.{slipText}
-use Rattle.slip.specs.Book.{isAccepted, noGroup, noSlot, fileTests, file}
+use Rattle.slot.specs.Slot.{noSlot}
+use Rattle.slip.specs.Book.{isAccepted, noGroup, fileTests, file}
 use Rattle.slip.proofs.Fitting.{Fitting}
 use Rattle.slip.proofs.Accepted.{accepted-fitting}
 

@@ -1,9 +1,9 @@
 -- Filing a group's slip in a slot of the book: 1 to 8, 15 to 17, or the slip filed.
-use Prim.Native.Nat.{ℕ, _/_, _*_, _+_}
+use Prim.Native.Nat.{ℕ, _*_, _+_}
 use mathlib.Core.Bool.{Bool, true, false, not, _||_}
 use mathlib.Core.List.{List, [], _∷_, _++_}
 use lib.ListN.{length, take, drop}
-use lib.Dec.{eqb, leb, ltb}
+use lib.Dec.{eqb, ltb}
 use Rattle.text.specs.Bytes.{Text, bytes}
 use Rattle.text.specs.Answer.{Answer, refused, given, Test, test, first}
 use Rattle.text.specs.declared.refusal.Refusal.the-variants.{NotAccepted, NoGroup, NoSlot}
@@ -11,7 +11,7 @@ use Rattle.frame.specs.Segments.{segments, ofName}
 use Rattle.frame.specs.Frame.{frameTests}
 use Rattle.profile.specs.Table.{Table}
 use Rattle.reader.specs.Fault.{Verdict, accepted, fault, verdict}
-use Rattle.slot.specs.Slot.{slotSize}
+use Rattle.slot.specs.Slot.{slotSize, noSlot}
 use Rattle.slip.specs.Slip.{slipText}
 
 abbrev pub isAccepted : Verdict → Bool
@@ -21,10 +21,6 @@ isAccepted (fault p n) = false
 -- group 0, or above the number of OBR
 abbrev pub noGroup : Text → ℕ → Bool
 noGroup m g = eqb g 0 || ltb (length (ofName (bytes "OBR") (segments m))) g
-
--- slot k, from 0, isn't below the book's length divided by 1,024, rounded down
-abbrev pub noSlot : Text → ℕ → Bool
-noSlot book k = leb (length book / slotSize) k
 
 -- the tests of an accepted message, and those before them
 abbrev pub ownTests : Text → ℕ → ℕ → Text → List Test

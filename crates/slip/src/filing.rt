@@ -8,7 +8,6 @@ ghost use Rattle.profile.specs.Profile.{profile01};
 ghost use Rattle.reader.specs.Fault.{verdict, accepted};
 ghost use Rattle.slot.specs.Slot.{slotSize};
 ghost use Rattle.slip.specs.Slip.{slipText};
-ghost use Rattle.slip.specs.Book.{noSlot};
 ghost use Rattle.slip.specs.Inner.{IsOrder, FilesOwn};
 ghost use Rattle.slip.specs.Promise.{Files};
 use crate::Filed;
@@ -19,6 +18,7 @@ use reader::observations;
 use reader::occurrence;
 use reader::text_in;
 use slot::fill;
+use slot::no_slot;
 use text::Refusal;
 use text::marks_of;
 use text::put;
@@ -43,13 +43,6 @@ fn fill_group(m: &[u8], start: usize, end: usize, slip: &mut [u8])
         text_in(m, order, 4, 1),
         observations(m, end + 1),
     );
-}
-
-// NO SLOT: the book's length is divided. A slot is multiplied only once it has passed this test, since a large one would wrap.
-pub fn no_slot(book: &[u8], slot: usize) -> bool
-    ensures { λ r. ⌜ r ≡ noSlot (now (book .entry)) slot ⌝ }
-{
-    book.len() / 1024 <= slot
 }
 
 // Files a group of an accepted message. The slip is written aside and stands whole before a byte of the book is written.

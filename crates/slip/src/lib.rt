@@ -2,7 +2,7 @@
 mod filing;
 
 pub use filing::file;
-pub use filing::no_slot;
+pub use slot::no_slot;
 use text::Refusal;
 
 // A slip filed, or why not.

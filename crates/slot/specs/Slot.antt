@@ -1,7 +1,9 @@
--- The fields of a slip, and the slot that they fill: their exact bytes.
+-- The fields of a slip, and the slot that they fill: their exact bytes. Which slots a book has.
 use Prim.Native.Nat.{ℕ, _/_, _%_, _-_}
+use mathlib.Core.Bool.{Bool}
 use mathlib.Core.List.{List, [], _∷_, _++_, flatMap}
 use lib.ListN.{length, replicate}
+use lib.Dec.{leb}
 use Rattle.text.specs.Bytes.{Text, pick, empty}
 
 -- two bytes, high byte first
@@ -22,6 +24,10 @@ tagBytes f = pick (empty (f .value)) [] (f .tag ∷ (twoBytes (length (f .value)
 
 abbrev pub slotSize : ℕ
 slotSize = 1024
+
+-- slot k, from 0, isn't below the book's length divided by 1,024, rounded down
+abbrev pub noSlot : Text → ℕ → Bool
+noSlot book k = leb (length book / slotSize) k
 
 -- the fields one after another, and zeros to the end of the slot
 unfoldable pub slipOf : List Tagged → Text

@@ -1,10 +1,10 @@
-// The slot: filling one that is all zeros with a slip.
+// The slot: filling one that is all zeros with a slip, and whether a book has one.
 ghost use mathlib.Core.Path.{_≡_};
 ghost use Prim.Native.Nat.{_+_, _≤_};
 ghost use lib.ListN.{length, replicate};
 ghost use Rattle.escape.specs.Escape.{resolved};
 ghost use Rattle.text.specs.Puts.{Puts};
-ghost use Rattle.slot.specs.Slot.{twoBytes, tagged, tagBytes, slotSize, slipOf};
+ghost use Rattle.slot.specs.Slot.{twoBytes, tagged, tagBytes, slotSize, slipOf, noSlot};
 ghost use Rattle.slot.specs.Inner.{Fits, valuesOf};
 use escape::put_resolved;
 use escape::resolved_len;
@@ -58,4 +58,11 @@ pub fn fill(
     let d = put_text(slip, c, 4, q, filler);
     let e = put_text(slip, d, 5, q, service);
     put_count(slip, e, count);
+}
+
+// NO SLOT: the book's length is divided. A slot is multiplied only once it has passed this test, since a large one would wrap.
+pub fn no_slot(book: &[u8], slot: usize) -> bool
+    ensures { λ r. ⌜ r ≡ noSlot (now (book .entry)) slot ⌝ }
+{
+    book.len() / 1024 <= slot
 }

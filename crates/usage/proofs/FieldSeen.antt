@@ -3,22 +3,40 @@ use mathlib.Core.Path.{_≡_, sym, subst, _∙_}
 use Prim.Native.Nat.{ℕ, _+_, _≤_}
 use mathlib.Core.Bool.{false}
 use mathlib.Core.List.{List}
-use lib.ListN.{getD}
-use lib.Dec.{eqb}
+use lib.ListN.{length, getD}
+use lib.Dec.{eqb, ltb}
 use Rattle.text.specs.Bytes.{Text, pick}
 use Rattle.text.specs.declared.marks.Marks.{Marks}
 use Rattle.frame.specs.Segments.{field, unsplit}
-use Rattle.profile.specs.Table.{Leaf, Rule}
+use Rattle.profile.specs.Table.{Table, Leaf, Rule, leavesOf}
 use Rattle.codes.specs.declared.rows.Rows.{Rows}
 use Rattle.profile.specs.Numbers.{tableOf}
 use Rattle.codes.specs.Inner.{Lists, leavesAt, ruleAt}
 use Rattle.fields.specs.declared.field.ReadField.{ReadField}
-use Rattle.checks.specs.View.{Field, fieldSeen}
-use Rattle.checks.specs.Fault.{firstFilled}
+use Rattle.checks.specs.Place.{repetitions}
+use Rattle.checks.specs.View.{Field, namedIn, fieldSeen}
+use Rattle.checks.specs.Fault.{startsFilled, firstFilled}
 use Rattle.listing.specs.Listing.{HasNumber}
-use Rattle.usage.specs.Listed.{leavesOfField}
-use Rattle.fields.specs.Judged.{ReadsField}
-use Rattle.usage.proofs.FieldText.{field-split, seen-surplus, seen-first}
+use Rattle.fields.specs.Judged.{ReadsField, repetitionsIn, filledIn}
+use Rattle.located.specs.Listed.{leavesOfField}
+use Rattle.located.proofs.FieldText.{field-split}
+
+-- what is seen of a field that is split
+module _ (T : Table) (q : Marks) (s : Text) (u : Rule) (x : Text) (is : x ≡ field q s (u .field)) (cut : unsplit s (u .field) ≡ false) where
+  repetitions-in : repetitions q s (u .field) ≡ repetitionsIn q x
+  unfolding repetitions
+  repetitions-in = rw (cut, is)
+
+  pub seen-surplus : fieldSeen T q s u .surplus ≡ ltb (u .repetitions) (length (repetitionsIn q x))
+  unfolding fieldSeen
+  seen-surplus = rw repetitions-in
+
+  pub seen-filled : fieldSeen T q s u .filled ≡ filledIn q (leavesOf T (namedIn q s) u) x
+  unfolding fieldSeen
+  seen-filled = rw (cut, repetitions-in)
+
+  pub seen-first : firstFilled (fieldSeen T q s u) ≡ startsFilled (filledIn q (leavesOf T (namedIn q s) u) x)
+  seen-first = rw seen-filled
 
 -- a field of a segment
 module _ (q : Marks) (t : List ℕ) (s : Text) (k at end : ℕ) (numbered : HasNumber s k) (low : pick (eqb k 1) 3 1 ≤ getD t (at + 1) 0) where

@@ -1,17 +1,11 @@
--- What only inner functions promise of a segment's listed fields: what is seen of them, and the leaves of one.
+-- What only inner functions promise of a segment's listed fields: what is seen of them.
 use Prim.Native.Nat.{ℕ}
 use mathlib.Core.List.{List}
 use Rattle.text.specs.Bytes.{Text}
 use Rattle.text.specs.declared.marks.Marks.{Marks}
-use Rattle.profile.specs.Table.{Leaf, leavesOf}
 use Rattle.profile.specs.Numbers.{tableOf}
-use Rattle.codes.specs.Inner.{ruleAt}
-use Rattle.checks.specs.View.{Field, namedIn, segmentSeen}
+use Rattle.checks.specs.View.{Field, segmentSeen}
 
 -- what is seen of a segment's listed fields
 abbrev pub fieldsSeen : List ℕ → Marks → Text → List Field
 fieldsSeen t q s = segmentSeen (tableOf t) q s .fields
-
--- the leaves that a field with those rows lists
-abbrev pub leavesOfField : Marks → List ℕ → Text → ℕ → ℕ → List Leaf
-leavesOfField q t s at end = leavesOf (tableOf t) (namedIn q s) (ruleAt t at end)

@@ -5,7 +5,7 @@ use Rattle.text.specs.Answer.{first}
 use Rattle.text.specs.Marks.{marksOf}
 use Rattle.escape.specs.Escape.{endsOutside, resolvedFrom, resolve}
 use Rattle.types.specs.Types.{digits, rest, twos}
-use Rattle.parts.specs.Split.{split, before, ended, led, join, closed}
+use Rattle.parts.specs.Split.{split, before, ended, led, join, closed, trimmed}
 use Rattle.parts.specs.Descent.{part, partStart}
 use Rattle.frame.specs.Segments.{field, fieldStart, ahead}
 use Rattle.frame.specs.Frame.{endsWithCR, frameTests}
@@ -18,7 +18,7 @@ use Rattle.reader.specs.View.{filledFrom, fieldSeen, segmentSeen, view}
 use Rattle.reader.specs.Fault.{walk, checks, firstBroken, verdict, judge}
 use Rattle.text.specs.Decimal.{digitsBefore}
 use Rattle.line.specs.Line.{faultLine, textLine}
-use Rattle.reply.specs.Header.{trimmed, copiedHD}
+use Rattle.reply.specs.Header.{copiedHD}
 use Rattle.reply.specs.Reply.{replyText, reply}
 use Rattle.slip.specs.Slot.{slipOf}
 use Rattle.reader.specs.Observations.{observations, observationsFrom}

@@ -1,5 +1,4 @@
 -- `between`: a part of no bytes is Empty.
-use mathlib.Core.Path.{ap}
 use Rattle.seek.proofs.Lying.{between-some, between-none}
 use Rattle.seek.proofs.between.Statement.{statement}
 use Rattle.seek.proofs.between.Tie as tie

@@ -1,5 +1,5 @@
 -- `clip`: told by the length of what stands there.
-use mathlib.Core.Path.{refl, ap}
+use mathlib.Core.Path.{refl}
 use Prim.Native.Nat.{_+_}
 use native.Mathlib.Omega.{arith}
 use Rattle.seek.proofs.Lying.{shown-none, shown-some}

@@ -1,6 +1,6 @@
 -- `header_leaf`: the header's fields counted their own way.
 use Rattle.seek.specs.Inner.{leafTold}
-use mathlib.Core.Path.{ap, _∙_}
+use mathlib.Core.Path.{_∙_}
 use lib.ListN.{take, drop}
 use Rattle.text.specs.Bytes.{within}
 use Rattle.seek.proofs.Lying.{header-third, header-none, header-first, header-second, clip-length}

@@ -5,7 +5,6 @@ use lib.ListN.{drop}
 use Rattle.parts.specs.Descent.{part, partStart}
 use Rattle.text.specs.Bytes.{within}
 use Rattle.parts.specs.Span.{stepsFrom}
-use mathlib.Core.Path.{ap}
 use Rattle.seek.proofs.Lying.{behind-short, behind-reached}
 use borrow.Author.Needs.{needs}
 use Rattle.seek.proofs.leaf_behind.Statement.{statement}

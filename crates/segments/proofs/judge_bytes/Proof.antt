@@ -5,9 +5,9 @@ use Prim.Native.Nat.{_+_}
 use lib.ListN.{getD}
 use borrow.Author.Needs.{needs}
 use Rattle.codes.proofs.OneField.{field-low, field-most}
-use Rattle.usage.specs.Listed.{leavesOfField}
+use Rattle.located.specs.Listed.{leavesOfField}
 use Rattle.fields.specs.Judged.{passed}
-use Rattle.usage.proofs.FieldLeaves.{lists-own, lists-itself}
+use Rattle.located.proofs.FieldLeaves.{lists-own, lists-itself}
 use Rattle.segments.proofs.FieldChecks.{judged-filled}
 use Rattle.segments.proofs.judge_bytes.Statement.{statement}
 use Rattle.segments.proofs.judge_bytes.Tie as tie

@@ -3,8 +3,8 @@ use Prim.Native.Nat.{_+_}
 use native.Mathlib.Omega.{arith}
 use borrow.Author.Needs.{needs}
 use Rattle.codes.proofs.OneField.{field-low, field-most}
-use Rattle.usage.specs.Listed.{leavesOfField}
-use Rattle.usage.proofs.FieldLeaves.{lists-itself}
+use Rattle.located.specs.Listed.{leavesOfField}
+use Rattle.located.proofs.FieldLeaves.{lists-itself}
 use Rattle.segments.proofs.FieldChecks.{judged-surplus, judged-missing, judged-optional, judged-filled}
 use Rattle.segments.proofs.judge_field.Statement.{statement}
 use Rattle.segments.proofs.judge_field.Tie as tie

@@ -11,7 +11,7 @@ use Rattle.cursor.proofs.Moving.{cursor-inside}
 use Rattle.codes.proofs.Numbered.{named-number}
 use Rattle.profile.specs.Numbers.{tableOf}
 use Rattle.checks.specs.View.{segmentSeen}
-use Rattle.usage.proofs.FieldText.{field-at}
+use Rattle.located.proofs.FieldText.{field-at}
 use Rattle.fields.proofs.FlatField.{flat-within}
 use Rattle.segments.proofs.FieldChecks.{usage-none}
 use Rattle.usage.proofs.SegmentFields.{on-bounds, on-field, on-number}

@@ -3,8 +3,8 @@ use Prim.Native.Nat.{_+_}
 use native.Mathlib.Omega.{arith}
 use borrow.Author.Needs.{needs}
 use Rattle.codes.proofs.OneField.{field-low, field-most}
-use Rattle.usage.specs.Listed.{leavesOfField}
-use Rattle.usage.proofs.FieldLeaves.{lists-itself}
+use Rattle.located.specs.Listed.{leavesOfField}
+use Rattle.located.proofs.FieldLeaves.{lists-itself}
 use Rattle.usage.proofs.FieldSeen.{filled-is}
 use Rattle.usage.proofs.starts_filled.Statement.{statement}
 use Rattle.usage.proofs.starts_filled.Tie as tie

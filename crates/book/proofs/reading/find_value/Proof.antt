@@ -3,7 +3,7 @@ use mathlib.Core.Path.{_≡_, sym, _∙_}
 use mathlib.Core.Bool.{false}
 use Prim.Native.Nat.{_+_, _*_, _≤_}
 use lib.ListN.{length}
-use Rattle.slip.specs.Book.{noSlot}
+use Rattle.slip.specs.Slot.{noSlot}
 use Rattle.slip.proofs.Answers.{slot-room}
 use Rattle.book.proofs.ReadSlip.{read-no-slot, read-slot}
 use Rattle.book.specs.Told.{valueOf}

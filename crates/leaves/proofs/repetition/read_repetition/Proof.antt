@@ -3,9 +3,10 @@ use borrow.Author.Needs.{needs}
 use Prim.Native.Nat.{_+_, _-_}
 use native.Mathlib.Omega.{arith}
 use mathlib.Core.Logic.{⊎-elim}
+use lib.ListN.{getD}
 use Rattle.text.proofs.Tests.{not-true}
 use Rattle.cursor.proofs.Moving.{cursor-inside}
-use Rattle.leaves.proofs.LeafByLeaf.{Reading, reading-first, reading-number, reading-reason, reading-missing, reading-broken, reading-judged, reading-passed, reading-none, reading-inside}
+use Rattle.leaves.proofs.LeafByLeaf.{Reading, reading-first, reading-number, reading-reason, reading-missing, reading-broken, reading-judged, reading-passed, reading-none, piece-inside}
 use Rattle.leaves.proofs.repetition.read_repetition.Statement.{statement}
 use Rattle.leaves.proofs.repetition.read_repetition.Tie as tie
 
@@ -87,7 +88,8 @@ sub-leaf-reason c =
     let p = c .before .before .before in
     let d = p .before .before in
     let i = d .before .before .before .before .before .before in
-    reading-inside (i .before .loop .inv) (i .loop-test .taken) (d .advance .ensures) (p .piece .ensures) .0
+    let t = i .before .before .before .before .before .args .t .now in
+    piece-inside (getD t (i .before .loop .at + 3) 0) _ _ (p .piece .ensures) .0
 
 part-leaf-reason-start : tie.Need-part-leaf-reason-start Inv-loop μ-loop
 part-leaf-reason-start c = sub-leaf-reason c
@@ -97,7 +99,8 @@ part-leaf-reason-end c =
     let p = c .before .before .before in
     let d = p .before .before in
     let i = d .before .before .before .before .before .before in
-    reading-inside (i .before .loop .inv) (i .loop-test .taken) (d .advance .ensures) (p .piece .ensures) .1
+    let t = i .before .before .before .before .before .args .t .now in
+    piece-inside (getD t (i .before .loop .at + 3) 0) _ _ (p .piece .ensures) .1
 
 leaf-reason-requires : tie.Need-leaf-reason-requires Inv-loop μ-loop
 leaf-reason-requires c κs =

@@ -39,7 +39,7 @@ use denote.Triple.Table.{entered, cited}
 use denote.Triple.Walked.{says, Stays, stay-none, stay-none-slice, walkOf, goes-none, goes-none-slice, Walks, ends-at, walked, walk-meets}
 use denote.Exit.{yes}
 use denote.Triple.Clauses.{ensured, lasts}
-use Rattle.reader.specs.LookUp.{lookUp}
+use Rattle.checks.specs.LookUp.{lookUp}
 use Rattle.reader.specs.Told.{placeOf, foundOf}
 use Rattle.reader.specs.Part.{VeryPart, startOf, endOf}
 use Rattle.reader.specs.Inner.{Inside}

@@ -1,0 +1,24 @@
+-- Looking up a place: 1 to 8, 9, 10, or Empty, or Text with its start and end in the message.
+use mathlib.Core.Bool.{Bool, not}
+use mathlib.Core.List.{List, [], _∷_, _++_}
+use Rattle.text.specs.Bytes.{Text}
+use Rattle.text.specs.Answer.{Answer, Test, test, first}
+use Rattle.text.specs.declared.refusal.Refusal.the-variants.{BadPlace, NoSegment}
+use Rattle.frame.specs.Frame.{frameTests}
+use Rattle.frame.specs.Segments.{fewer}
+pub use Rattle.checks.specs.Shown.{Found, Empty, Text-from-to, shown}
+use Rattle.checks.specs.Place.{Place, isPlace, textAt, startAt}
+
+abbrev pub found : Text → Place → Found
+found m p = shown (startAt m p) (textAt m p)
+
+-- fewer segments of that name
+abbrev pub tooFew : Text → Place → Bool
+tooFew m p = fewer m (p .name) (p .occurrence)
+
+abbrev pub lookUpTests : Text → Place → List Test
+lookUpTests m p = frameTests m ++ (test BadPlace (not (isPlace p)) ∷ test NoSegment (tooFew m p) ∷ [])
+
+-- THE LOOK-UP
+unfoldable pub lookUp : Text → Place → Answer Found
+lookUp m p = first (lookUpTests m p) (found m p)

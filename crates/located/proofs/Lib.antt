@@ -1,0 +1,2 @@
+pub mod FieldText
+pub mod FieldLeaves

@@ -1,0 +1,25 @@
+// Which places may be asked for.
+ghost use mathlib.Core.Path.{_≡_};
+ghost use mathlib.Core.List.{[], _∷_};
+ghost use Rattle.text.specs.Limits.{_to_, isWithin};
+ghost use Rattle.checks.specs.Place.{place, isPlace};
+use frame::is_name;
+use parts::Numbers;
+
+fn is_within(low: u64, high: u64, n: u64) -> bool
+    ensures { λ r. ⌜ r ≡ isWithin (low to high) n ⌝ }
+{
+    (low <= n) & (n <= high)
+}
+
+// A name of the form, and every number within its limits.
+pub fn may_be_asked(a: u8, b: u8, c: u8, occurrence: u64, n: Numbers) -> bool
+    ensures { λ r. ⌜ r ≡ isPlace (place (a ∷ b ∷ c ∷ []) occurrence (n .field) (n .repetition) (n .component) (n .subcomponent)) ⌝ }
+{
+    is_name(a, b, c)
+        & is_within(1, 512, occurrence)
+        & is_within(1, 255, n.field)
+        & is_within(1, 65535, n.repetition)
+        & is_within(1, 255, n.component)
+        & is_within(1, 255, n.subcomponent)
+}
