@@ -1,10 +1,10 @@
 // Calls as lines on standard input, and for each its answer as a line: docs/CALLS.md has their form. What the entries answer can so be
 // compared with what another program answers.
 mod calls;
-mod window;
+mod turns;
 
-use window::Window;
-use window::turn;
+use input::Window;
+use turns::turn;
 
 // A proved loop has to end, and nothing says that the input does: so it counts its turns down, from a number that no run uses up.
 fn run(window: &mut [u8], out: &mut [u8]) {

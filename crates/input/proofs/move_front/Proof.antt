@@ -3,8 +3,8 @@ use borrow.Author.Needs.{needs}
 use Prim.Native.Nat.{_-_, _≤_}
 use mathlib.Core.Path.{_≡_}
 use lib.ListN.{length, length-set}
-use Rattle.replay.proofs.window.move_front.Statement.{statement}
-use Rattle.replay.proofs.window.move_front.Tie as tie
+use Rattle.input.proofs.move_front.Statement.{statement}
+use Rattle.input.proofs.move_front.Tie as tie
 
 abbrev Inv-loop : tie.InvT-loop
 Inv-loop window₀ from to k₀ i₀ window k i = (k ≤ i) × (length window ≡ length window₀)

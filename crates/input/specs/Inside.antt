@@ -1,6 +1,6 @@
 -- Where the window on the input stands in its memory.
 use Prim.Native.Nat.{ℕ, _≤_}
-use Rattle.replay.specs.declared.window.Window.{Window}
+use Rattle.input.specs.declared.Window.{Window}
 
 -- what is not answered yet lies in the n bytes of memory, and what is seen of it lies in it
 pub record Inside (w : Window) (n : ℕ) : Type 0 where

@@ -1,12 +1,8 @@
-// The window on standard input: lines are answered in it as soon as they are whole.
+// A window on standard input: what is read and not used yet is kept, and more is read behind it.
 ghost use Prim.Native.Nat.{_+_, _≤_};
 ghost use lib.ListN.{length};
-ghost use Rattle.replay.specs.Inside.{Inside};
-use crate::calls::answer;
+ghost use Rattle.input.specs.Inside.{Inside};
 use libc::STDIN_FILENO;
-use libc::STDOUT_FILENO;
-use telling::tell_no_call;
-use words::seek;
 
 // The bytes from `from` up to `to` are read and not answered yet; up to `seen` they have no line feed.
 pub struct Window {
@@ -16,24 +12,6 @@ pub struct Window {
     // the line is longer than the window, and its front is thrown away
     pub is_long: bool,
     pub is_open: bool,
-}
-
-// Writes the line that was told. Where nobody takes it, there is no more to do.
-fn say(out: &[u8], n: usize) -> bool {
-    if out.len() < n {
-        return false;
-    }
-    io::write_all(STDOUT_FILENO, &out[0..n])
-}
-
-// Answers a line, and tells whether the answer was taken. Of a line that is too long only its end is here.
-fn answer_line(l: &[u8], is_long: bool, out: &mut [u8]) -> bool {
-    if is_long {
-        let n = tell_no_call(out);
-        return say(out, n);
-    }
-    let n = answer(l, out);
-    say(out, n)
 }
 
 // Moves the bytes that are not answered yet to the front.
@@ -77,7 +55,8 @@ fn more(window: &mut [u8], kept: usize, is_long: bool) -> Window
 }
 
 // Reads more. Of a line that fills the window nothing is kept but that it is too long.
-fn refill(window: &mut [u8], w: Window) -> Window
+// Inner: the callers hold that the window lies in its memory.
+pub fn refill(window: &mut [u8], w: Window) -> Window
     requires { ⌜ Inside w (length (now window)) ⌝ }
     ensures { λ r. ⌜ Inside r (length (now (window .exit))) ⌝ }
 {
@@ -87,33 +66,4 @@ fn refill(window: &mut [u8], w: Window) -> Window
     }
     move_front(window, w.from, w.to);
     more(window, kept, w.is_long)
-}
-
-// One turn: a line is answered, or more is read. At the input's end a line without its line feed is answered too.
-// Inner: the program begins with a window that lies in its memory, and each turn keeps it there.
-pub fn turn(window: &mut [u8], w: Window, out: &mut [u8]) -> Window
-    requires { ⌜ Inside w (length (now window)) ⌝ }
-    ensures { λ r. ⌜ Inside r (length (now (window .exit))) ⌝ }
-{
-    let from = w.from;
-    let to = w.to;
-    let end = seek(&window[0..to], w.seen, b'\n');
-    if end < to {
-        let l = &window[from..end];
-        let is_open = answer_line(l, w.is_long, out);
-        return Window {
-            from: end + 1,
-            seen: end + 1,
-            to,
-            is_long: false,
-            is_open,
-        };
-    }
-    let v = refill(window, w);
-    let last = v.to;
-    if !v.is_open & ((0 < last) | v.is_long) {
-        let l = &window[0..last];
-        answer_line(l, v.is_long, out);
-    }
-    v
 }
