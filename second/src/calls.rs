@@ -3,9 +3,12 @@
 use std::io::{self, Write};
 use std::ops::Range;
 
-use crate::judge::Verdict;
-use crate::lookup::{Asked, Found};
+use crate::escape::resolve;
+use crate::judge::{judge, Verdict};
+use crate::lookup::{look_up, Asked, Found};
 use crate::refusal::Refusal;
+use crate::reply::reply;
+use crate::slip::{file, read_slip};
 
 /// The longest string, in bytes.
 pub const MOST_STRING_BYTES: usize = 131_072;
@@ -89,28 +92,28 @@ fn number(word: &[u8]) -> Option<u64> {
 
 fn write_answer(call: Call, out: &mut Vec<u8>) -> io::Result<()> {
     match call {
-        Call::Judge(message) => write_verdict(crate::judge(&message), out),
-        Call::Look(message, name, asked) => match crate::look_up(&message, &name, &asked) {
+        Call::Judge(message) => write_verdict(judge(&message), out),
+        Call::Look(message, name, asked) => match look_up(&message, &name, &asked) {
             Ok(Found::Empty) => write!(out, "empty"),
             Ok(Found::Text(part)) => write_part("text", part, &message, out),
             Err(refusal) => write_refusal(refusal, out),
         },
         Call::Resolve(text, mut buffer) => {
-            let written = crate::resolve(&text, &mut buffer);
+            let written = resolve(&text, &mut buffer);
             write_written(written, &buffer, out)
         }
         Call::Reply([message, stamp, number], mut buffer) => {
-            let written = crate::reply(&message, &stamp, &number, &mut buffer);
+            let written = reply(&message, &stamp, &number, &mut buffer);
             write_written(written, &buffer, out)
         }
         Call::File(message, group, slot, mut book) => {
-            match crate::file(&message, group, slot, &mut book) {
+            match file(&message, group, slot, &mut book) {
                 Ok(()) => write!(out, "filed")?,
                 Err(refusal) => write_refusal(refusal, out)?,
             }
             write_string(&book, out)
         }
-        Call::Read(book, slot, tag) => match crate::read_slip(&book, slot, tag) {
+        Call::Read(book, slot, tag) => match read_slip(&book, slot, tag) {
             Ok(part) => write_part("value", part, &book, out),
             Err(refusal) => write_refusal(refusal, out),
         },

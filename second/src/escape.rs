@@ -1,6 +1,7 @@
 //! The five escapes, and text with them resolved.
 
 use crate::refusal::Refusal;
+use crate::separators::{COMPONENT, ESCAPE, FIELD, REPETITION, SUBCOMPONENT};
 
 /// The bytes of a text with its escapes resolved, read from the left; an
 /// error where a `\` begins no escape.
@@ -14,8 +15,8 @@ impl Iterator for Resolved<'_> {
     fn next(&mut self) -> Option<Self::Item> {
         let (byte, length) = match *self.rest {
             [] => return None,
-            [b'\\', code, b'\\', ..] => (separator(code), 3),
-            [b'\\', ..] => (Err(Refusal::BadEscape), 1),
+            [ESCAPE, code, ESCAPE, ..] => (separator(code), 3),
+            [ESCAPE, ..] => (Err(Refusal::BadEscape), 1),
             [byte, ..] => (Ok(byte), 1),
         };
         self.rest = &self.rest[length..];
@@ -26,11 +27,11 @@ impl Iterator for Resolved<'_> {
 /// The separator an escape stands for.
 fn separator(code: u8) -> Result<u8, Refusal> {
     match code {
-        b'F' => Ok(b'|'),
-        b'S' => Ok(b'^'),
-        b'T' => Ok(b'&'),
-        b'R' => Ok(b'~'),
-        b'E' => Ok(b'\\'),
+        b'F' => Ok(FIELD),
+        b'S' => Ok(COMPONENT),
+        b'T' => Ok(SUBCOMPONENT),
+        b'R' => Ok(REPETITION),
+        b'E' => Ok(ESCAPE),
         _ => Err(Refusal::BadEscape),
     }
 }
@@ -43,7 +44,7 @@ fn resolved_length(text: &[u8]) -> Result<usize, Refusal> {
 /// Whether every `\` of the text begins one of the five escapes.
 pub fn is_sound(text: &[u8]) -> bool {
     // Most texts have no escape at all.
-    !text.contains(&b'\\') || resolved_length(text).is_ok()
+    !text.contains(&ESCAPE) || resolved_length(text).is_ok()
 }
 
 /// Writes the text, its escapes resolved, at the front of the buffer and

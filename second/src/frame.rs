@@ -2,13 +2,12 @@
 
 use crate::parts::Segment;
 use crate::refusal::Refusal;
+use crate::separators::{FIELD, HEADER};
 
 /// The longest message, in bytes.
 pub const MOST_BYTES: usize = 65_535;
 /// The greatest number of segments.
 pub const MOST_SEGMENTS: usize = 512;
-/// The first nine bytes of every message.
-pub const HEADER: &[u8] = b"MSH|^~\\&|";
 
 /// A message that has passed the eight checks.
 ///
@@ -74,7 +73,7 @@ fn check_segments(text: &str) -> Result<(), Refusal> {
     let mut headers = 0;
     for segment in raw_segments(text) {
         let name = match *segment {
-            [a, b, c] | [a, b, c, b'|', ..] if is_name([a, b, c]) => [a, b, c],
+            [a, b, c] | [a, b, c, FIELD, ..] if is_name([a, b, c]) => [a, b, c],
             _ => return Err(Refusal::BadSegment),
         };
         segments += 1;

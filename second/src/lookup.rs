@@ -4,6 +4,20 @@ use std::ops::Range;
 
 use crate::frame::{self, Frame};
 use crate::refusal::Refusal;
+use crate::separators::{COMPONENT, FIELD, HEADER_HEAD, REPETITION, SUBCOMPONENT};
+
+/// The greatest occurrence that may be asked for: no message has more
+/// segments.
+const MOST_OCCURRENCE: u64 = frame::MOST_SEGMENTS as u64;
+/// The greatest field, component or subcomponent that may be asked for.
+const MOST_PART: u64 = 255;
+/// The greatest repetition that may be asked for: no message has more
+/// bytes.
+const MOST_REPETITION: u64 = frame::MOST_BYTES as u64;
+
+/// Where MSH-1 and MSH-2 stand in every message.
+const MSH_1: Range<usize> = 3..4;
+const MSH_2: Range<usize> = 4..HEADER_HEAD;
 
 /// The numbers of an asked place, each counted from 1.
 #[derive(Clone, Copy, Debug, PartialEq, Eq)]
@@ -37,7 +51,8 @@ pub fn look_up(message: &[u8], name: &[u8], asked: &Asked) -> Result<Found, Refu
     let leaf = if name == *b"MSH" {
         header_leaf(message, segment, asked)
     } else {
-        leaf_after(message, segment.start + 3, segment.end, asked.field, asked)
+        let head = segment.start + name.len();
+        leaf_after(message, head, segment.end, asked.field, asked)
     };
     Ok(if leaf.is_empty() {
         Found::Empty
@@ -53,11 +68,11 @@ fn asked_name(name: &[u8]) -> Option<[u8; 3]> {
 
 impl Asked {
     fn is_place(&self) -> bool {
-        (1..=512).contains(&self.occurrence)
-            && (1..=255).contains(&self.field)
-            && (1..=65_535).contains(&self.repetition)
-            && (1..=255).contains(&self.component)
-            && (1..=255).contains(&self.subcomponent)
+        (1..=MOST_OCCURRENCE).contains(&self.occurrence)
+            && (1..=MOST_PART).contains(&self.field)
+            && (1..=MOST_REPETITION).contains(&self.repetition)
+            && (1..=MOST_PART).contains(&self.component)
+            && (1..=MOST_PART).contains(&self.subcomponent)
     }
 }
 
@@ -82,10 +97,10 @@ fn find_segment(frame: &Frame<'_>, name: [u8; 3], occurrence: u64) -> Option<Ran
 fn header_leaf(message: &[u8], header: Range<usize>, asked: &Asked) -> Range<usize> {
     let first_leaf = (asked.repetition, asked.component, asked.subcomponent) == (1, 1, 1);
     match asked.field {
-        1 if first_leaf => 3..4,
-        2 if first_leaf => 4..8,
+        1 if first_leaf => MSH_1,
+        2 if first_leaf => MSH_2,
         1 | 2 => 0..0,
-        field => leaf_after(message, 8, header.end, field - 2, asked),
+        field => leaf_after(message, HEADER_HEAD, header.end, field - 2, asked),
     }
 }
 
@@ -95,10 +110,10 @@ fn leaf_after(message: &[u8], head: usize, end: usize, field: u64, asked: &Asked
         return end..end;
     }
     let descent = [
-        (b'|', field),
-        (b'~', asked.repetition),
-        (b'^', asked.component),
-        (b'&', asked.subcomponent),
+        (FIELD, field),
+        (REPETITION, asked.repetition),
+        (COMPONENT, asked.component),
+        (SUBCOMPONENT, asked.subcomponent),
     ];
     descent
         .iter()

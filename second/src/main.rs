@@ -1,4 +1,4 @@
-//! The desk program: answers calls, judges a message, strikes a message.
+//! The second program: answers calls, judges a message, strikes a message.
 
 #![forbid(unsafe_code)]
 

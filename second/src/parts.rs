@@ -4,7 +4,7 @@
 //! any depth; which separator it is says how many parts end there. So a field
 //! is read in one pass, its leaves coming in rising place order.
 
-use crate::frame::HEADER;
+use crate::separators::{COMPONENT, FIELD, HEADER_HEAD, REPETITION, SUBCOMPONENT};
 
 /// The part that ends at a byte, and with it all parts within.
 #[derive(Clone, Copy, Debug, PartialEq, Eq)]
@@ -20,10 +20,10 @@ const ENDS: [End; 256] = ends();
 
 const fn ends() -> [End; 256] {
     let mut ends = [End::Nothing; 256];
-    ends[b'&' as usize] = End::Subcomponent;
-    ends[b'^' as usize] = End::Component;
-    ends[b'~' as usize] = End::Repetition;
-    ends[b'|' as usize] = End::Field;
+    ends[SUBCOMPONENT as usize] = End::Subcomponent;
+    ends[COMPONENT as usize] = End::Component;
+    ends[REPETITION as usize] = End::Repetition;
+    ends[FIELD as usize] = End::Field;
     ends
 }
 
@@ -57,7 +57,7 @@ impl<'m> Segment<'m> {
     /// name, and in the header MSH-1 and MSH-2 too.
     pub fn head(&self) -> &'m [u8] {
         match self.is_header() {
-            true => &self.bytes[..HEADER.len() - 1],
+            true => &self.bytes[..HEADER_HEAD],
             false => &self.bytes[..3],
         }
     }
@@ -102,7 +102,7 @@ impl<'m> Fields<'m> {
     /// left, which reads as Empty: absent and zero-length are the same.
     pub fn go_to(&mut self, number: u32) {
         while self.number < number {
-            self.rest = match self.rest.iter().position(|&byte| byte == b'|') {
+            self.rest = match self.rest.iter().position(|&byte| byte == FIELD) {
                 Some(end) => &self.rest[end + 1..],
                 None => &[],
             };
@@ -112,7 +112,7 @@ impl<'m> Fields<'m> {
 
     /// Whether the field here has no bytes, and so no repetitions.
     pub fn at_zero_bytes(&self) -> bool {
-        matches!(self.rest, [] | [b'|', ..])
+        matches!(self.rest, [] | [FIELD, ..])
     }
 
     /// How many repetitions the field here has.
@@ -120,8 +120,8 @@ impl<'m> Fields<'m> {
         if self.at_zero_bytes() {
             return 0;
         }
-        let field = self.rest.iter().take_while(|&&byte| byte != b'|');
-        field.fold(1, |count, &byte| count + u32::from(byte == b'~'))
+        let field = self.rest.iter().take_while(|&&byte| byte != FIELD);
+        field.fold(1, |count, &byte| count + u32::from(byte == REPETITION))
     }
 
     /// The field here, to be walked leaf by leaf.

@@ -1,6 +1,6 @@
 //! The profile: which segments, fields and leaves are judged, and by what.
 
-use crate::judge::Reason;
+use crate::fault::Reason;
 use crate::types::Simple::{self, Dtm, Ft, Id, Is, Nm, Si, St, Tm, Tx};
 
 /// A segment the profile lists.

@@ -3,15 +3,23 @@
 use std::io::{self, Write};
 
 use crate::escape;
+use crate::fault::Fault;
 use crate::frame::{self, Frame};
-use crate::judge::{self, Fault};
+use crate::judge;
 use crate::parts::{FieldWalk, Fields};
 use crate::profile::{LeafRule, List, CONTROL_NUMBER, HD};
 use crate::refusal::Refusal;
+use crate::separators::{COMPONENT, FIELD, HEADER, HEADER_HEAD};
 use crate::types;
 
 /// No reply is longer.
 pub const MOST_BYTES: usize = 1_200;
+/// The digits of a stamp.
+const STAMP_BYTES: usize = 14;
+/// The longest reply number.
+const MOST_NUMBER_BYTES: usize = 20;
+/// The least condition that is answered AR; those below it are answered AE.
+const LEAST_REJECTION: u8 = 200;
 
 /// Writes the reply at the front of the buffer and says how many bytes it
 /// wrote. Refuses with 1 to 8, 11 to 14.
@@ -44,11 +52,12 @@ pub fn reply(
 }
 
 fn is_stamp(stamp: &[u8]) -> bool {
-    stamp.len() == 14 && types::is_digits(stamp) && types::is_date_time(stamp)
+    stamp.len() == STAMP_BYTES && types::is_digits(stamp) && types::is_date_time(stamp)
 }
 
 fn is_reply_number(number: &[u8]) -> bool {
-    (1..=20).contains(&number.len()) && number.iter().copied().all(frame::is_capital_or_digit)
+    (1..=MOST_NUMBER_BYTES).contains(&number.len())
+        && number.iter().copied().all(frame::is_capital_or_digit)
 }
 
 /// What a reply copies from the header of the message.
@@ -104,9 +113,9 @@ fn can_be_copied(leaf: &[u8], rule: &LeafRule) -> bool {
 }
 
 fn write_header(out: &mut Vec<u8>, copied: &Copied<'_>, stamp: &[u8], number: &[u8]) {
-    out.extend_from_slice(b"MSH|^~\\&");
+    out.extend_from_slice(&HEADER[..HEADER_HEAD]);
     for hd in copied.receiver.iter().chain(&copied.sender) {
-        out.push(b'|');
+        out.push(FIELD);
         write_components(out, hd);
     }
     let rest: [&[u8]; 8] = [
@@ -128,7 +137,7 @@ fn write_components(out: &mut Vec<u8>, components: &[&[u8]]) {
     let kept = filled.map_or(0, |last| last + 1);
     for (index, text) in components[..kept].iter().enumerate() {
         if index > 0 {
-            out.push(b'^');
+            out.push(COMPONENT);
         }
         out.extend_from_slice(text);
     }
@@ -137,12 +146,12 @@ fn write_components(out: &mut Vec<u8>, components: &[&[u8]]) {
 fn write_acknowledgement(out: &mut Vec<u8>, control_number: &[u8], fault: Option<&Fault>) {
     let code = match fault {
         None => b"AA",
-        Some(fault) if fault.reason.condition() < 200 => b"AE",
+        Some(fault) if fault.reason.condition() < LEAST_REJECTION => b"AE",
         Some(_) => b"AR",
     };
     out.extend_from_slice(b"MSA|");
     out.extend_from_slice(code);
-    out.push(b'|');
+    out.push(FIELD);
     out.extend_from_slice(control_number);
     out.push(b'\r');
 }

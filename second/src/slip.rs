@@ -10,6 +10,8 @@ use crate::refusal::Refusal;
 
 /// The bytes of a slot.
 pub const SLOT_BYTES: usize = 1_024;
+/// The bytes before a value: its tag, and its length in two.
+const HEAD_BYTES: usize = 3;
 
 /// An OBX count is never greater: a message has 512 segments, and three of
 /// them are MSH, PID and OBR.
@@ -77,23 +79,25 @@ impl<'m> Group<'m> {
         let mut end = 0;
         for ((tag, _), text) in TEXTS.iter().zip(self.texts) {
             if !text.is_empty() {
-                let length = escape::resolve(text, &mut slip[end + 3..])
+                let length = escape::resolve(text, &mut slip[end + HEAD_BYTES..])
                     .expect("accepted leaves have sound escapes and fit in a slot");
                 end = close(&mut slip, end, *tag, length);
             }
         }
-        slip[end + 3..end + 5].copy_from_slice(&self.observations.to_be_bytes());
-        close(&mut slip, end, COUNT_TAG, 2);
+        let count = self.observations.to_be_bytes();
+        let start = end + HEAD_BYTES;
+        slip[start..start + count.len()].copy_from_slice(&count);
+        close(&mut slip, end, COUNT_TAG, count.len());
         slip
     }
 }
 
-/// Puts tag and length before a value written at `start + 3`; the next tag
-/// comes behind it.
+/// Puts tag and length, from `start` on, before a value that is written
+/// already; the next tag comes behind it.
 fn close(slip: &mut [u8], start: usize, tag: u8, length: usize) -> usize {
     let [high, low] = (length as u16).to_be_bytes();
-    slip[start..start + 3].copy_from_slice(&[tag, high, low]);
-    start + 3 + length
+    slip[start..start + HEAD_BYTES].copy_from_slice(&[tag, high, low]);
+    start + HEAD_BYTES + length
 }
 
 /// The part of the book that is a tag's value. Refuses with 17 to 19.
@@ -137,9 +141,9 @@ fn values_of(slip: &[u8]) -> Option<[Option<Range<usize>>; 6]> {
 
 /// Where the value stands whose tag, which must be this one, is at `start`.
 fn value_at(slip: &[u8], start: usize, tag: u8) -> Option<Range<usize>> {
-    match *slip.get(start..start + 3)? {
+    match *slip.get(start..start + HEAD_BYTES)? {
         [found, high, low] if found == tag => {
-            let start = start + 3;
+            let start = start + HEAD_BYTES;
             let end = start + usize::from(u16::from_be_bytes([high, low]));
             Some(start..end).filter(|_| end <= slip.len())
         }

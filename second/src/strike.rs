@@ -3,6 +3,7 @@
 use crate::frame::{self, Frame};
 use crate::parts::Segment;
 use crate::profile::{self, Field, LeafRule, Listed, Usage};
+use crate::separators::{COMPONENT, FIELD, REPETITION, SUBCOMPONENT};
 
 /// Strikes out, beyond the first nine bytes, each unlisted segment with its
 /// CR and the content of each unlisted field, component and subcomponent;
@@ -31,14 +32,14 @@ fn strike_segment(listed: Listed, segment: Segment<'_>, out: &mut Vec<u8>) {
         None => return,
     };
     let mut value_leaves = profile::value_leaves(b"");
-    for (number, text) in (segment.first_field()..).zip(body.split(|&byte| byte == b'|')) {
-        out.push(b'|');
+    for (number, text) in (segment.first_field()..).zip(body.split(|&byte| byte == FIELD)) {
+        out.push(FIELD);
         if let Some(field) = find_field(listed, number) {
             if field.usage == Usage::Conditional {
                 value_leaves = profile::value_leaves(first_leaf(text));
             }
             let leaves = field.leaves.unwrap_or(value_leaves);
-            each_part(text, b'~', out, |_, repetition, out| {
+            each_part(text, REPETITION, out, |_, repetition, out| {
                 strike_repetition(leaves, repetition, out);
             });
         }
@@ -51,14 +52,14 @@ fn find_field(listed: Listed, number: u32) -> Option<&'static Field> {
 }
 
 fn first_leaf(field: &[u8]) -> &[u8] {
-    let mut leaves = field.split(|byte| matches!(byte, b'~' | b'^' | b'&'));
+    let mut leaves = field.split(|&byte| matches!(byte, REPETITION | COMPONENT | SUBCOMPONENT));
     leaves.next().unwrap_or_default()
 }
 
 fn strike_repetition(leaves: &[LeafRule], repetition: &[u8], out: &mut Vec<u8>) {
-    each_part(repetition, b'^', out, |component, text, out| {
+    each_part(repetition, COMPONENT, out, |component, text, out| {
         if leaves.iter().any(|leaf| leaf.place.0 == component) {
-            each_part(text, b'&', out, |subcomponent, text, out| {
+            each_part(text, SUBCOMPONENT, out, |subcomponent, text, out| {
                 if leaves
                     .iter()
                     .any(|leaf| leaf.place == (component, subcomponent))

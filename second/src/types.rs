@@ -67,6 +67,7 @@ pub fn is_number(text: &[u8]) -> bool {
 
 const CLOCK: [RangeInclusive<u8>; 3] = [0..=23, 0..=59, 0..=59];
 const CALENDAR_AND_CLOCK: [RangeInclusive<u8>; 5] = [1..=12, 1..=31, 0..=23, 0..=59, 0..=59];
+const ZONE: [RangeInclusive<u8>; 2] = [0..=14, 0..=59];
 
 /// `YYYY[MM[DD[HH[MM[SS[.S[S[S[S]]]]]]]]]`, then optionally a zone.
 pub fn is_date_time(text: &[u8]) -> bool {
@@ -110,7 +111,7 @@ fn is_pairs_and_zone(text: &[u8], ranges: &[RangeInclusive<u8>]) -> bool {
 fn is_zone(text: &[u8]) -> bool {
     match *text {
         [] => true,
-        [b'+' | b'-', h, hh, m, mm] => is_pair_in(h, hh, &(0..=14)) && is_pair_in(m, mm, &(0..=59)),
+        [b'+' | b'-', h, hh, m, mm] => is_pair_in(h, hh, &ZONE[0]) && is_pair_in(m, mm, &ZONE[1]),
         _ => false,
     }
 }

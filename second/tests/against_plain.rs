@@ -3,9 +3,8 @@
 
 mod common;
 use common::*;
-use second::judge::Reason;
 use second::profile::{value_leaves, Field, LeafRule, Listed, Usage};
-use second::{look_up, strike, Asked, Found, Verdict};
+use second::{look_up, strike, Asked, Found, Reason, Verdict};
 
 fn parts(text: &str, separator: char) -> Vec<&str> {
     match text {
