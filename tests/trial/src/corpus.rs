@@ -1,24 +1,12 @@
-//! The stored calls: worked messages, samples, the greatest sizes, random ones.
+//! The corpus: calls gathered line by line.
 
-use std::fs;
-use std::path::PathBuf;
-
-use crate::draft::names;
-use crate::edges;
-use crate::generator::Generator;
-use crate::large;
-use crate::lent;
+use crate::lent::{self, REPLY_NUMBER, STAMP};
+use crate::numbers::MOST_REPLY_BYTES;
 use crate::places::Place;
-use crate::profile::fields_of;
 use crate::slips;
 use crate::spelling;
-use crate::tour;
-use crate::worked;
 
-const RANDOM_CALLS: usize = 3_000;
-const STAMP_AND_NUMBER: &[u8] = b" =20240305101501 =K1";
-
-/// Lines of calls, gathered.
+#[derive(Default)]
 pub struct Corpus {
     pub lines: Vec<Vec<u8>>,
 }
@@ -31,13 +19,26 @@ impl Corpus {
         self.lines.push(line);
     }
 
+    pub fn judge(&mut self, message: &[u8]) {
+        self.push("judge", message, b"");
+    }
+
     pub fn look(&mut self, message: &[u8], name: &str, numbers: [u64; 5]) {
         self.push("look", message, &Place::new(name, numbers).words());
     }
 
+    /// A text resolved into a buffer of that length, filled with one byte.
+    pub fn resolve(&mut self, text: &[u8], room: usize) {
+        let mut rest = Vec::new();
+        spelling::word(&b".".repeat(room), &mut rest);
+        self.push("resolve", text, &rest);
+    }
+
     /// A reply into a buffer of that length, filled with one byte.
-    fn reply(&mut self, message: &[u8], room: usize) {
-        let mut rest = STAMP_AND_NUMBER.to_vec();
+    pub fn reply(&mut self, message: &[u8], room: usize) {
+        let mut rest = Vec::new();
+        spelling::word(STAMP.as_bytes(), &mut rest);
+        spelling::word(REPLY_NUMBER.as_bytes(), &mut rest);
         spelling::word(&b".".repeat(room), &mut rest);
         self.push("reply", message, &rest);
     }
@@ -57,15 +58,16 @@ impl Corpus {
         self.push("read", book, &rest);
     }
 
-    /// Buffers of enough and of one byte too few.
-    fn replies(&mut self, message: &[u8]) {
+    /// Replies into buffers of enough and of one byte too few.
+    pub fn replies(&mut self, message: &[u8]) {
         let length = lent::reply_length(message);
-        self.reply(message, 1_200);
+        self.reply(message, MOST_REPLY_BYTES);
         self.reply(message, length);
         self.reply(message, length.saturating_sub(1));
     }
 
-    fn readings(&mut self, message: &[u8], group: u64) {
+    /// Every tag of a slip filed in slot 1, the slot before it, and one that the book does not have.
+    pub fn readings(&mut self, message: &[u8], group: u64) {
         if let Some(book) = slips::filed(message, group, 1, &b"#".repeat(3_000)) {
             for tag in 0..=7 {
                 self.read(&book, 1, tag);
@@ -74,183 +76,4 @@ impl Corpus {
             self.read(&book, 2, 1);
         }
     }
-}
-
-fn add_worked(corpus: &mut Corpus) {
-    for (message, _) in worked::messages() {
-        corpus.push("judge", &message, b"");
-        corpus.look(&message, "OBX", [1, 5, 1, 1, 1]);
-        corpus.look(&message, "MSH", [1, 9, 1, 1, 1]);
-        corpus.look(&message, "ZZX", [1, 1, 1, 1, 1]);
-        corpus.replies(&message);
-        corpus.file(&message, 1, 0, &[0; 1_024]);
-        corpus.file(&message, 2, 0, &[0; 1_024]);
-        corpus.readings(&message, 1);
-    }
-}
-
-/// Places that samples are looked up at; the first few are for long samples too, which would fill the corpus otherwise.
-static LOOKS: &[(&str, [u64; 5])] = &[
-    ("PID", [1, 11, 1, 1, 1]),
-    ("OBX", [2, 5, 1, 1, 1]),
-    ("PID", [1, 3, 1, 4, 2]),
-    ("OBR", [2, 3, 1, 1, 1]),
-    ("MSH", [1, 1, 1, 1, 1]),
-    ("MSH", [1, 4, 1, 1, 1]),
-    ("MSH", [1, 9, 1, 2, 1]),
-    ("MSH", [1, 10, 1, 1, 1]),
-    ("PID", [1, 3, 1, 1, 1]),
-    ("PID", [1, 5, 1, 2, 1]),
-    ("NK1", [1, 3, 1, 1, 1]),
-    ("ORC", [1, 1, 1, 1, 1]),
-    ("OBR", [1, 4, 1, 2, 1]),
-    ("NTE", [1, 3, 1, 1, 1]),
-];
-
-/// A few texts of a message: those with an escape first, then long ones.
-fn texts(message: &[u8]) -> Vec<Vec<u8>> {
-    let mut all: Vec<&[u8]> = message.split(|byte| b"|\r".contains(byte)).filter(|text| !text.is_empty()).collect();
-    all.sort_by_key(|text| (!text.contains(&b'\\'), std::cmp::Reverse(text.len())));
-    all.iter().take(3).map(|text| text.to_vec()).collect()
-}
-
-/// A sample under the header of M: most samples have a fault in their own, so that nothing after it is judged.
-fn under_good_header(message: &[u8]) -> Vec<u8> {
-    let mut out = Vec::new();
-    worked::m().segments[0].write(&mut out);
-    out.extend_from_slice(message.splitn(2, |byte| *byte == b'\r').nth(1).unwrap_or(b""));
-    out
-}
-
-fn add_body(corpus: &mut Corpus, message: &[u8]) {
-    let message = under_good_header(message);
-    if lent::reply_length(&message) > 0 {
-        corpus.push("judge", &message, b"");
-        if message.len() < 5_000 {
-            corpus.reply(&message, 1_200);
-            corpus.file(&message, 1, 1, &b"#".repeat(2_048));
-            corpus.readings(&message, 1);
-        }
-    }
-}
-
-fn add_sample(corpus: &mut Corpus, message: &[u8]) {
-    corpus.push("judge", message, b"");
-    let long = message.len() > 5_000;
-    // of a long one whose frame is refused, more calls would tell nothing more
-    let refused = long && lent::reply_length(message) == 0;
-    let looks = if refused { 1 } else { LOOKS.len() };
-    for (name, numbers) in &LOOKS[..if long { looks.min(2) } else { looks }] {
-        corpus.look(message, name, *numbers);
-    }
-    for text in texts(message) {
-        corpus.push("resolve", &text, b" =.*1199;");
-    }
-    if refused {
-        corpus.reply(message, 1_200);
-    } else {
-        corpus.replies(message);
-    }
-    let accepted = slips::filed(message, 1, 0, &[0; 1_024]).is_some();
-    for group in if long && !accepted { 1..=1 } else { 0..=2 } {
-        corpus.file(message, group, group, &b"#".repeat(4_096));
-    }
-    corpus.readings(message, 1);
-}
-
-fn add_samples(corpus: &mut Corpus, folder: &str) -> Result<(), String> {
-    let told = |error: std::io::Error| format!("{}: {}", folder, error);
-    let mut paths: Vec<PathBuf> = Vec::new();
-    for entry in fs::read_dir(folder).map_err(told)? {
-        paths.push(entry.map_err(told)?.path());
-    }
-    paths.retain(|path| path.extension().map_or(false, |end| end == "hl7"));
-    paths.sort();
-    if paths.is_empty() {
-        return Err(format!("{} has no .hl7 files", folder));
-    }
-    for path in paths {
-        let message = fs::read(&path).map_err(told)?;
-        add_sample(corpus, &message);
-        add_body(corpus, &message);
-    }
-    Ok(())
-}
-
-fn add_size(corpus: &mut Corpus, message: &[u8]) {
-    let all = names(message);
-    let last = String::from_utf8_lossy(all[all.len() - 1]).into_owned();
-    let count = all.iter().filter(|name| **name == last.as_bytes()).count() as u64;
-    let field = fields_of(last.as_bytes()).last().map_or(1, |field| field.number) as u64;
-    corpus.push("judge", message, b"");
-    corpus.look(message, &last, [count, field, 1, 1, 1]);
-    corpus.reply(message, 1_200);
-    let groups = all.iter().filter(|name| **name == b"OBR").count() as u64;
-    corpus.file(message, groups, 0, &[0; 1_024]);
-}
-
-fn add_sizes(corpus: &mut Corpus) {
-    // too many notes and unlisted segments get every call, the longer ones are judged
-    for (row, (_, line, accepted)) in large::MANY.iter().enumerate() {
-        for segments in [512, 513] {
-            let message = large::many(line, segments);
-            if row < 2 || (*accepted && segments == 512) {
-                add_size(corpus, &message);
-            } else {
-                corpus.push("judge", &message, b"");
-            }
-        }
-    }
-    for row in 0..large::LONG.len() {
-        for length in [65_535, 65_536] {
-            add_size(corpus, &large::long(row, length));
-        }
-    }
-    for length in [65_535, 65_536] {
-        add_size(corpus, &large::notes(length));
-        add_size(corpus, &large::header(length, b'x'));
-    }
-    // the greatest numbers that a place may have, with text there and without
-    let repeated = large::long(5, 65_535);
-    for repetition in [1, 65_400, 65_428, 65_429, 65_430, 65_535, 65_536] {
-        corpus.look(&repeated, "OBX", [1, 10, repetition, 1, 1]);
-    }
-    let fields = large::long(4, 65_535);
-    for field in [2, 255, 256, 65_000] {
-        corpus.look(&fields, "NTE", [1, field, 1, 1, 1]);
-    }
-}
-
-/// All are judged; those altered where a reply or a slip copies from are replied to and filed too.
-fn add_tour(corpus: &mut Corpus) {
-    for (field, message) in tour::messages() {
-        corpus.push("judge", &message, b"");
-        match (field.name, field.number) {
-            ("MSH", 3..=6) | ("MSH", 10..=11) => corpus.reply(&message, 1_200),
-            ("PID", 3) | ("OBR", 2..=4) => corpus.file(&message, 1, 0, &[b'#'; 1_024]),
-            _ => (),
-        }
-    }
-}
-
-fn add_random(corpus: &mut Corpus, seed: u64) {
-    let mut generator = Generator::new(seed);
-    let wanted = corpus.lines.len() + RANDOM_CALLS;
-    while corpus.lines.len() < wanted {
-        corpus.lines.extend(generator.bundle().lines());
-    }
-}
-
-pub fn make(samples: &str, seed: u64) -> Result<Corpus, String> {
-    let mut corpus = Corpus { lines: Vec::new() };
-    add_worked(&mut corpus);
-    add_samples(&mut corpus, samples)?;
-    add_sizes(&mut corpus);
-    add_tour(&mut corpus);
-    edges::add(&mut corpus);
-    add_random(&mut corpus, seed);
-    for line in ["judge", "what =x", "look =MSH =PID 1 1"] {
-        corpus.lines.push(line.as_bytes().to_vec());
-    }
-    Ok(corpus)
 }

@@ -1,5 +1,8 @@
 //! A message in parts that can be altered before it is written out.
 
+/// The separators within a field, outermost first.
+pub const WITHIN_FIELD: &[u8] = b"~^&";
+
 #[derive(Clone)]
 pub struct Segment {
     pub name: Vec<u8>,
@@ -37,7 +40,7 @@ impl Segment {
 
     pub fn put(&mut self, number: usize, place: [usize; 3], value: &[u8]) {
         let text = self.text(number);
-        *self.field(number) = put(&text, b"~^&", &place, value);
+        *self.field(number) = put(&text, WITHIN_FIELD, &place, value);
     }
 
     pub fn write(&self, out: &mut Vec<u8>) {
@@ -99,9 +102,9 @@ mod tests {
 
     #[test]
     fn a_part_is_put_at_its_place() {
-        assert_eq!(put(b"a^b~c", b"~^&", &[1, 2, 1], b"x"), b"a^x~c");
-        assert_eq!(put(b"a", b"~^&", &[2, 3, 2], b"x"), b"a~^^&x");
-        assert_eq!(put(b"", b"~^&", &[1, 1, 1], b""), b"");
+        assert_eq!(put(b"a^b~c", WITHIN_FIELD, &[1, 2, 1], b"x"), b"a^x~c");
+        assert_eq!(put(b"a", WITHIN_FIELD, &[2, 3, 2], b"x"), b"a~^^&x");
+        assert_eq!(put(b"", WITHIN_FIELD, &[1, 1, 1], b""), b"");
     }
 
     #[test]

@@ -1,21 +1,25 @@
 //! Every edge once, on short messages, so that the corpus does not hang on the luck of its seed.
 
 use crate::corpus::Corpus;
-use crate::large::{many, START};
+use crate::large::many;
 use crate::leaves::{TYPE_FIELDS, VALUE_FIELDS};
-use crate::lent::{BAD_NUMBERS, BAD_STAMPS, SLOTS};
+use crate::lent::{BAD_NUMBERS, BAD_STAMPS, REPLY_NUMBER, SLOTS, STAMP};
 use crate::newer::UNLISTED;
+use crate::numbers::{MOST_BYTES, MOST_SEGMENTS, SLOT_BYTES};
 use crate::order::NEAR_NAMES;
 use crate::places::{BAD_NAMES, WIDE};
+use crate::short::{GROUP, HEADER, KIN, NOTE, OBSERVATION, ORDER, PATIENT, START};
 use crate::slips::{slip, TAGS};
 use crate::spelling;
 use crate::values::{CAPITALS_AND_DIGITS, ESCAPES, NEAR_ESCAPES, NEAR_INDEXES, NEAR_MOMENTS, NEAR_NUMBERS, NEAR_TIMES};
 
 const BYTES: &[u8] = b"\x00\x01\x09\x0A\x0B\x0C\x0D\x0E\x1F\x20\x7E\x7F\x80\xA0\xFF";
 const NAME_BYTES: &[u8] = b"/09:@AZ[`az{|^ \r";
+/// Where the one letter of MSH-11 stands in the start.
+const PROCESSING_ID: usize = 31;
 
 fn judge(corpus: &mut Corpus, parts: &[&[u8]]) {
-    corpus.push("judge", &parts.concat(), b"");
+    corpus.judge(&parts.concat());
 }
 
 /// The start and one observation with this type and value.
@@ -32,7 +36,7 @@ fn add_frames(corpus: &mut Corpus) {
     for one in 2..=8 {
         for other in one..=8 {
             let has = |number| number == one || number == other;
-            let mut message = if has(8) { many("ZZX\r", 513) } else { START.as_bytes().to_vec() };
+            let mut message = if has(8) { many("ZZX\r", MOST_SEGMENTS + 1) } else { START.as_bytes().to_vec() };
             if has(7) {
                 message.extend_from_slice(b"MSH|x\r");
             }
@@ -49,9 +53,9 @@ fn add_frames(corpus: &mut Corpus) {
                 message.insert(30, 0x7F);
             }
             if has(2) {
-                message.splice(40..40, [b'x'; 65_536]);
+                message.splice(40..40, [b'x'; MOST_BYTES + 1]);
             }
-            corpus.push("judge", &message, b"");
+            corpus.judge(&message);
             corpus.look(&message, if one == other { "NTE" } else { "nte" }, [9, 1, 1, 1, 1]);
         }
     }
@@ -85,31 +89,30 @@ fn add_bytes(corpus: &mut Corpus) {
 fn add_types(corpus: &mut Corpus) {
     for (kind, list) in [("DTM", NEAR_MOMENTS), ("TM", NEAR_TIMES), ("NM", NEAR_NUMBERS), ("ST", NEAR_ESCAPES)] {
         for value in list {
-            corpus.push("judge", &observation(kind, value), b"");
+            corpus.judge(&observation(kind, value));
         }
     }
     for value in NEAR_NUMBERS {
-        corpus.push("judge", &observation("SN", &["^1^^", value].concat()), b"");
+        corpus.judge(&observation("SN", &["^1^^", value].concat()));
     }
     for value in NEAR_INDEXES {
         judge(corpus, &[START.as_bytes(), b"NTE|", value.as_bytes(), b"\r"]);
     }
     for kind in TYPE_FIELDS {
         for value in VALUE_FIELDS.iter().step_by(5) {
-            corpus.push("judge", &observation(kind, value), b"");
+            corpus.judge(&observation(kind, value));
         }
     }
 }
 
 /// Every capital and digit where a list is of single ones.
 fn add_codes(corpus: &mut Corpus) {
-    let start = START.as_bytes();
+    let (start, header, group) = (START.as_bytes(), HEADER.as_bytes(), GROUP.as_bytes());
     for code in CAPITALS_AND_DIGITS {
         let code = &[*code][..];
-        let patient = [&b"PID|||A||B||2024|"[..], code, b"||||||||||||||||Y\r"].concat();
-        judge(corpus, &[&start[..39], &patient, b"OBR|1||F|P|||2024\r"]);
-        judge(corpus, &[&start[..39], b"PID|||A||B||2024|||||||||||||||||", code, b"\rOBR|1||F|P|||2024\r"]);
-        judge(corpus, &[&start[..31], code, &start[32..]]);
+        judge(corpus, &[header, b"PID|||A||B||2024|", code, b"||||||||||||||||Y\r", group]);
+        judge(corpus, &[header, b"PID|||A||B||2024|||||||||||||||||", code, b"\r", group]);
+        judge(corpus, &[&start[..PROCESSING_ID], code, &start[PROCESSING_ID + 1..]]);
         judge(corpus, &[&start[..start.len() - 1], b"||||||||||||||||||", code, b"\r"]);
         judge(corpus, &[start, b"OBX|1||P||||||||", code, b"\r"]);
     }
@@ -117,16 +120,15 @@ fn add_codes(corpus: &mut Corpus) {
 
 /// Every succession of up to three listed segments after the header.
 fn add_orders(corpus: &mut Corpus) {
-    static LINES: &[&str] =
-        &["PID|||A||B||2024\r", "NK1|1||C\r", "ORC|RE\r", "OBR|1||F|P|||2024\r", "OBX|1||P||||||||F\r", "NTE\r"];
-    let mut orders = vec![START[..39].to_string()];
+    static LINES: &[&str] = &[PATIENT, KIN, ORDER, GROUP, OBSERVATION, NOTE];
+    let mut orders = vec![HEADER.to_string()];
     let mut shorter = orders.clone();
     for _ in 0..3 {
         shorter = shorter.iter().flat_map(|order| LINES.iter().map(move |line| [order, *line].concat())).collect();
         orders.extend(shorter.iter().cloned());
     }
     for order in orders {
-        corpus.push("judge", order.as_bytes(), b"");
+        corpus.judge(order.as_bytes());
     }
 }
 
@@ -140,10 +142,10 @@ fn add_places(corpus: &mut Corpus) {
             corpus.look(&message, "NTE", numbers);
         }
     }
-    for (repetition, component, sub) in [(1, 2, 1), (1, 2, 2), (1, 2, 3), (2, 1, 1), (2, 2, 1), (3, 1, 1)] {
-        corpus.look(&message, "NTE", [1, 3, repetition, component, sub]);
-        corpus.look(&message, "MSH", [1, 1, repetition, component, sub]);
-        corpus.look(&message, "MSH", [1, 2, repetition, component, sub]);
+    for (repetition, component, subcomponent) in [(1, 2, 1), (1, 2, 2), (1, 2, 3), (2, 1, 1), (2, 2, 1), (3, 1, 1)] {
+        corpus.look(&message, "NTE", [1, 3, repetition, component, subcomponent]);
+        corpus.look(&message, "MSH", [1, 1, repetition, component, subcomponent]);
+        corpus.look(&message, "MSH", [1, 2, repetition, component, subcomponent]);
     }
     corpus.look(&message, "NTE", [2, 3, 1, 2, 4]);
     for name in BAD_NAMES {
@@ -163,10 +165,10 @@ fn add_replies(corpus: &mut Corpus) {
         corpus.push("reply", START.as_bytes(), &rest);
     };
     for stamp in BAD_STAMPS.iter().chain(NEAR_MOMENTS.iter().filter(|text| text.len() == 14)) {
-        reply(stamp, "K1");
+        reply(stamp, REPLY_NUMBER);
     }
     for number in BAD_NUMBERS {
-        reply("20240305101501", number);
+        reply(STAMP, number);
         reply("2024", number);
     }
 }
@@ -174,27 +176,25 @@ fn add_replies(corpus: &mut Corpus) {
 fn add_texts(corpus: &mut Corpus) {
     for text in NEAR_ESCAPES.iter().chain(ESCAPES) {
         for room in [9, 1, 0] {
-            let mut rest = Vec::new();
-            spelling::word(&b".".repeat(room), &mut rest);
-            corpus.push("resolve", text.as_bytes(), &rest);
+            corpus.resolve(text.as_bytes(), room);
         }
     }
 }
 
 fn add_slots(corpus: &mut Corpus) {
-    let groups = [START, "OBX|1||P||||||||F\rOBR|1|R|G|Q|||2024\r"].concat().into_bytes();
+    let groups = [START, OBSERVATION, "OBR|1|R|G|Q|||2024\r"].concat().into_bytes();
     for slot in SLOTS {
         corpus.file(&groups, 1, *slot, &[b'#'; 3_000]);
         corpus.read(&[0; 3_000], *slot, 1);
     }
     for group in [0, 1, 2, 3, (1 << 32) + 1, u64::MAX] {
-        corpus.file(&groups, group, 0, &[b'#'; 1_024]);
-        corpus.file(&groups, group, 1, &[b'#'; 2_047]);
+        corpus.file(&groups, group, 0, &[b'#'; SLOT_BYTES]);
+        corpus.file(&groups, group, 1, &[b'#'; 2 * SLOT_BYTES - 1]);
     }
 }
 
 fn read(corpus: &mut Corpus, fields: &[(u8, Vec<u8>)]) {
-    corpus.read(&slip(fields)[..1_024], 0, 6);
+    corpus.read(&slip(fields)[..SLOT_BYTES], 0, 6);
 }
 
 fn good_slip() -> [(u8, Vec<u8>); 6] {
@@ -240,8 +240,8 @@ fn add_slips(corpus: &mut Corpus) {
         fields[5].1 = count.to_be_bytes().to_vec();
         read(corpus, &fields);
     }
-    for at in 0..1_024 {
-        if at % 97 == 0 || at > 1_020 || (20..40).contains(&at) {
+    for at in 0..SLOT_BYTES {
+        if at % 97 == 0 || at >= SLOT_BYTES - 3 || (20..40).contains(&at) {
             let mut slot = slip(&good);
             slot[at] ^= 1;
             corpus.read(&slot, 0, 6);

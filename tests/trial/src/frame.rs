@@ -1,6 +1,6 @@
 //! Damage to the bytes of a written message.
 
-use crate::generator::Damages;
+use crate::damage::Damage;
 use crate::random::Random;
 
 const SPECIAL: &[u8] = b"|^~\\&|^~\\&\r\rAFSTREZ09 .+-\"";
@@ -144,7 +144,7 @@ fn line_feeds(random: &mut Random, bytes: &mut Vec<u8>) {
     *bytes = out;
 }
 
-pub static EDITS: &Damages<Vec<u8>> = &[
+pub static EDITS: &[Damage<Vec<u8>>] = &[
     ("byte changed", 12, change),
     ("byte put in", 10, insert),
     ("byte taken out", 10, delete),
@@ -153,7 +153,7 @@ pub static EDITS: &Damages<Vec<u8>> = &[
     ("message cut", 4, cut),
 ];
 
-pub static DAMAGES: &Damages<Vec<u8>> = &[
+pub static DAMAGES: &[Damage<Vec<u8>>] = &[
     ("short header", 6, short_header),
     ("bad byte", 6, bad_byte),
     ("bad header", 6, bad_header),

@@ -8,7 +8,8 @@ use std::time::{Duration, Instant};
 
 use crate::child;
 use crate::generator::Generator;
-use crate::round::{agree, Lines, Round};
+use crate::lines::Lines;
+use crate::round::{agree, Round};
 use crate::spelling;
 use crate::table::Table;
 

@@ -1,11 +1,14 @@
-//! Random calls. They come in bundles, all calls of a bundle about one message.
+//! Random calls. They come in bundles: calls about one message, and some that have none.
 
 use std::collections::BTreeMap;
 
+use crate::damage::{self, Damage};
 use crate::draft::Draft;
 use crate::lent;
+use crate::numbers::SLOT_BYTES;
 use crate::places::{self, Place};
 use crate::random::Random;
+use crate::short::{HEADER, PATIENT};
 use crate::slips;
 use crate::spelling;
 use crate::values::{of, text, ESCAPES, NEAR_ESCAPES};
@@ -37,9 +40,6 @@ pub struct Generator {
     pub made: BTreeMap<&'static str, usize>,
 }
 
-/// Kinds of damage: the name, a weight, the deed.
-pub type Damages<T> = [(&'static str, usize, fn(&mut Random, &mut T))];
-
 impl Generator {
     pub fn new(seed: u64) -> Generator {
         Generator { random: Random::new(seed), books: Vec::new(), made: BTreeMap::new() }
@@ -49,16 +49,10 @@ impl Generator {
         *self.made.entry(name).or_insert(0) += 1;
     }
 
-    /// One of the damages, by weight.
-    fn damage<T>(&mut self, list: &Damages<T>, thing: &mut T) {
-        let mut left = self.random.below(list.iter().map(|row| row.1).sum());
-        for (name, weight, deed) in list {
-            if left < *weight {
-                self.count(name);
-                return deed(&mut self.random, thing);
-            }
-            left -= weight;
-        }
+    fn damage<T>(&mut self, kinds: &[Damage<T>], thing: &mut T) {
+        let (name, _, deed) = damage::choose(&mut self.random, kinds);
+        self.count(name);
+        deed(&mut self.random, thing);
     }
 
     /// A message that is accepted, as an older or a newer sender makes it.
@@ -107,20 +101,10 @@ impl Generator {
     }
 
     fn tiny_message(&mut self) -> Vec<u8> {
-        static STARTS: &[&str] = &[
-            "",
-            "MSH|^~\\&|\r",
-            "MSH|^~\\&|",
-            "MSH|^~\\&\r",
-            "MSH|^~\\&||\r",
-            "MSH|^~\\&|A\r",
-            "MSH\r",
-            "MSH|^~\\&||L|||2024||ORU^R01|C7|P|2.5.1\r",
-        ];
-        static ENDS: &[&str] = &[
-            "", "", "PID\r", "PID|\r", "ZZX\r", "ZZX|a\\b\r", "OBR|1\r", "\r", "MSH\r", "PI\r", "NTE",
-            "PID|||A||B||2024\r",
-        ];
+        static STARTS: &[&str] =
+            &["", "MSH|^~\\&|\r", "MSH|^~\\&|", "MSH|^~\\&\r", "MSH|^~\\&||\r", "MSH|^~\\&|A\r", "MSH\r", HEADER];
+        static ENDS: &[&str] =
+            &["", "", "PID\r", "PID|\r", "ZZX\r", "ZZX|a\\b\r", "OBR|1\r", "\r", "MSH\r", "PI\r", "NTE", PATIENT];
         let mut out = self.random.pick(STARTS).as_bytes().to_vec();
         for _ in 0..self.random.between(0, 2) {
             out.extend_from_slice(self.random.pick(ENDS).as_bytes());
@@ -204,7 +188,7 @@ impl Generator {
     fn book(&mut self) -> Vec<u8> {
         if self.books.len() < 8 || self.random.one_in(12) {
             let message = self.good_message(20).write();
-            let mut book = lent::old_bytes(&mut self.random, 2_048);
+            let mut book = lent::old_bytes(&mut self.random, 2 * SLOT_BYTES);
             for slot in 0..2 {
                 let group = lent::group(&mut self.random, &message);
                 book = slips::filed(&message, group, slot, &book).unwrap_or(book);

@@ -1,21 +1,22 @@
 //! Messages about the greatest length and the greatest number of segments.
 
+use crate::numbers::MOST_BYTES;
+use crate::profile::{type_limit, Simple};
 use crate::random::Random;
+use crate::short::{GROUP, HEADER, KIN, NOTE, OBSERVATION, PATIENT, START};
 
-/// The shortest header, PID and OBR that are accepted; the last has no notes or observations yet.
-pub const START: &str = "MSH|^~\\&||L|||2024||ORU^R01|C7|P|2.5.1\rPID|||A||B||2024\rOBR|1||F|P|||2024\r";
+const UNLISTED: &str = "ZZX\r";
+const WITH_DIGIT: &str = "A1B|\\\r";
 
-const OBSERVATION: &str = "OBX|1||P||||||||F\r";
-
-/// What repeats up to the wanted number of segments, and whether the message is accepted at up to 512.
+/// What repeats up to the wanted number of segments, and whether the message is accepted where these are not too many.
 pub static MANY: &[(&str, &str, bool)] = &[
-    ("notes", "NTE\r", true),
-    ("unlisted segments", "ZZX\r", true),
+    ("notes", NOTE, true),
+    ("unlisted segments", UNLISTED, true),
     ("observations", OBSERVATION, true),
-    ("groups", "OBR|1||F|P|||2024\r", true),
-    ("segments with a digit", "A1B|\\\r", true),
-    ("next of kin", "NK1|1||C\r", false),
-    ("patients", "PID|||A||B||2024\r", false),
+    ("groups", GROUP, true),
+    ("segments with a digit", WITH_DIGIT, true),
+    ("next of kin", KIN, false),
+    ("patients", PATIENT, false),
 ];
 
 /// A message of that many segments, three of which are the start.
@@ -43,6 +44,10 @@ pub static LONG: &[(&str, &str, u8, &str, bool)] = &[
     ("empty segments", "NTE\r", b'\r', "\r", false),
 ];
 
+/// Rows of the list above: filled up with fields, and with repetitions.
+pub const FIELDS: usize = 4;
+pub const REPETITIONS: usize = 5;
+
 /// A message of that many bytes: its last segment is filled up.
 pub fn long(row: usize, length: usize) -> Vec<u8> {
     let (_, before, byte, after, _) = LONG[row];
@@ -55,7 +60,8 @@ pub fn long(row: usize, length: usize) -> Vec<u8> {
 
 /// A single header of that length, so that nothing else is in the message.
 pub fn header(length: usize, byte: u8) -> Vec<u8> {
-    let mut out = b"MSH|^~\\&||L|||2024||ORU^R01|C7|P|2.5.1|".to_vec();
+    let mut out = HEADER.trim_end().as_bytes().to_vec();
+    out.push(b'|');
     out.resize(length - 1, byte);
     out.push(b'\r');
     out
@@ -64,7 +70,7 @@ pub fn header(length: usize, byte: u8) -> Vec<u8> {
 /// Full notes: seven of the greatest length, an eighth, and what is left in an unlisted field.
 pub fn notes(length: usize) -> Vec<u8> {
     let mut out = START.as_bytes().to_vec();
-    let note = [&b"n".repeat(4_096)[..], b"~"].concat();
+    let note = [&b"n".repeat(type_limit(Simple::Long))[..], b"~"].concat();
     out.extend_from_slice(b"NTE|1||");
     out.extend(note.repeat(7));
     out.extend_from_slice(b"\rNTE|2||");
@@ -78,8 +84,8 @@ pub fn notes(length: usize) -> Vec<u8> {
 pub fn message(random: &mut Random) -> Vec<u8> {
     match random.below(10) {
         0..=4 => {
-            let short = random.pick(&[MANY[0].1, MANY[1].1, MANY[4].1]);
-            let line = if random.one_in(8) { random.pick(&[MANY[2].1, MANY[3].1]) } else { short };
+            let short = random.pick(&[NOTE, UNLISTED, WITH_DIGIT]);
+            let line = if random.one_in(8) { random.pick(&[OBSERVATION, GROUP]) } else { short };
             let segments = random.pick(&[511, 512, 513, 513, 513, 513, 513, 514, 514, 600]);
             let mut out = many(line, segments);
             if random.one_in(3) {
@@ -101,25 +107,31 @@ pub fn message(random: &mut Random) -> Vec<u8> {
             }
             out
         }
-        _ if random.one_in(2) => notes(random.pick(&[65_535, 65_536])),
-        _ => header(random.pick(&[65_535, 65_536]), random.pick(b"|x~\\")),
+        _ if random.one_in(2) => notes(random.pick(&[MOST_BYTES, MOST_BYTES + 1])),
+        _ => header(random.pick(&[MOST_BYTES, MOST_BYTES + 1]), random.pick(b"|x~\\")),
     }
 }
 
 #[cfg(test)]
 mod tests {
     use super::*;
+    use crate::numbers::MOST_SEGMENTS;
+
+    #[test]
+    fn rows_are_the_named_ones() {
+        assert_eq!((LONG[FIELDS].2, LONG[REPETITIONS].2), (b'|', b'~'));
+    }
 
     #[test]
     fn sizes_are_as_asked() {
-        for segments in [512, 513] {
+        for segments in [MOST_SEGMENTS, MOST_SEGMENTS + 1] {
             for (_, line, _) in MANY {
                 let message = many(line, segments);
                 assert_eq!(message.iter().filter(|byte| **byte == b'\r').count(), segments);
-                assert!(message.len() <= 65_535);
+                assert!(message.len() <= MOST_BYTES);
             }
         }
-        for length in [65_535, 65_536] {
+        for length in [MOST_BYTES, MOST_BYTES + 1] {
             assert!((0..LONG.len()).all(|row| long(row, length).len() == length));
             assert_eq!(notes(length).len(), length);
             assert_eq!(header(length, b'x').len(), length);

@@ -1,9 +1,9 @@
 //! Damage to leaves and fields of a draft.
 
+use crate::damage::Damage;
 use crate::draft::{Draft, Segment};
-use crate::generator::Damages;
 use crate::newer::{anything, listed_segment};
-use crate::profile::{leaves, limit, list, Field, Leaf, Simple, TYPES};
+use crate::profile::{leaves, limit, list, type_limit, Field, Leaf, Simple, TYPES};
 use crate::random::Random;
 use crate::values::{at_limit, near, near_code, of, text, NEAR_ESCAPES};
 
@@ -30,7 +30,7 @@ fn spot(random: &mut Random, draft: &Draft) -> Option<Spot> {
     let field = random.pick(fields);
     let leaf = random.pick(leaves(kind_of(&draft.segments[at], &field)));
     let repetition = if random.one_in(4) { random.between(1, field.most) } else { 1 };
-    Some(Spot { at, field, leaf, place: [repetition, leaf.component, leaf.sub] })
+    Some(Spot { at, field, leaf, place: [repetition, leaf.component, leaf.subcomponent] })
 }
 
 fn set(draft: &mut Draft, spot: &Spot, value: &[u8]) {
@@ -127,7 +127,7 @@ fn sender(random: &mut Random, draft: &mut Draft) {
     match random.below(5) {
         0 => draft.segments[0].put(number, [1, component, 1], &near),
         1 => {
-            let value = at_limit(random, leaf.simple, if component == 2 { 199 } else { 20 });
+            let value = at_limit(random, leaf.simple, type_limit(leaf.simple));
             draft.segments[0].put(number, [1, component, 1], &value);
         }
         2 => draft.segments[0].put(number, [2, component, 1], b"X"),
@@ -168,11 +168,11 @@ fn only_separators(random: &mut Random, draft: &mut Draft) {
 /// A field in which only unlisted parts have text.
 fn only_unlisted(random: &mut Random, draft: &mut Draft) {
     if let Some(spot) = spot(random, draft) {
-        let (component, sub) = random.pick(&[(1, 2), (1, 3), (9, 1), (9, 2), (2, 2), (4, 4), (5, 2), (8, 1)]);
+        let (component, subcomponent) = random.pick(&[(1, 2), (1, 3), (9, 1), (9, 2), (2, 2), (4, 4), (5, 2), (8, 1)]);
         let value = anything(random, b"");
         let segment = &mut draft.segments[spot.at];
         segment.field(spot.field.number).clear();
-        segment.put(spot.field.number, [1, component, sub], &value);
+        segment.put(spot.field.number, [1, component, subcomponent], &value);
     }
 }
 
@@ -237,7 +237,11 @@ fn other_type(random: &mut Random, draft: &mut Draft) {
         let listed = leaves(random.pick(TYPES));
         let leaf = random.pick(listed);
         *draft.segments[at].field(2) = kind.as_bytes().to_vec();
-        let value = if random.one_in(2) { near(random, leaf.simple) } else { at_limit(random, leaf.simple, 199) };
+        let value = if random.one_in(2) {
+            near(random, leaf.simple)
+        } else {
+            at_limit(random, leaf.simple, type_limit(Simple::Short))
+        };
         draft.segments[at].put(5, [1, leaf.component, 1], &value);
     }
 }
@@ -261,7 +265,7 @@ fn shifted_fields(random: &mut Random, draft: &mut Draft) {
     }
 }
 
-pub static DAMAGES: &Damages<Draft> = &[
+pub static DAMAGES: &[Damage<Draft>] = &[
     ("length at a limit", 22, length),
     ("edge of a type", 16, type_edge),
     ("value at an edge of its type", 20, value_edge),

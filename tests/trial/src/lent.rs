@@ -1,9 +1,14 @@
 //! What is lent and told beside a message: stamps, reply numbers, buffers, books, groups and slots.
 
 use crate::draft::names;
+use crate::numbers::{MOST_REPLY_BYTES, SLOT_BYTES};
 use crate::random::Random;
 use crate::spelling;
 use crate::values::{of, text, CAPITALS_AND_DIGITS, DIGITS};
+
+/// The stamp and the reply number that most calls have, those of the worked reply.
+pub const STAMP: &str = "20240305101501";
+pub const REPLY_NUMBER: &str = "K1";
 
 pub static BAD_STAMPS: &[&str] = &[
     "", "2024", "2024030510150", "202403051015011", "20240305101501.1", "20240305101501+0100", "20240005101501",
@@ -18,7 +23,7 @@ pub fn stamp(random: &mut Random) -> Vec<u8> {
         0 => random.pick(BAD_STAMPS).as_bytes().to_vec(),
         1 => random.pick(&edges).as_bytes().to_vec(),
         2 => of(random, DIGITS, 14),
-        _ => b"20240305101501".to_vec(),
+        _ => STAMP.as_bytes().to_vec(),
     }
 }
 
@@ -35,7 +40,7 @@ pub fn reply_number(random: &mut Random) -> Vec<u8> {
             of(random, CAPITALS_AND_DIGITS, length)
         }
         2 => random.pick(&["A", "Z", "0", "9", "AZ09"]).as_bytes().to_vec(),
-        _ => b"K1".to_vec(),
+        _ => REPLY_NUMBER.as_bytes().to_vec(),
     }
 }
 
@@ -64,7 +69,7 @@ pub fn buffer(random: &mut Random, about: usize) -> Vec<u8> {
         2 | 3 => about.saturating_sub(1),
         4 | 5 => about,
         6 => about + 1,
-        _ => 1_200,
+        _ => MOST_REPLY_BYTES,
     };
     old_bytes(random, length)
 }
@@ -73,7 +78,7 @@ pub const SLOTS: &[u64] = &[0, 1, 2, 3, 4, 1 << 22, 1 << 32, 1 << 54, (1 << 54) 
 
 pub fn book(random: &mut Random) -> Vec<u8> {
     let odd = random.pick(&[0, 1, 1_023, 1_025, 2_047, 3_000, 4_096]);
-    let whole = random.pick(&[1_024, 1_024, 2_048, 3_072]);
+    let whole = random.pick(&[SLOT_BYTES, SLOT_BYTES, 2 * SLOT_BYTES, 3 * SLOT_BYTES]);
     let length = if random.percent(75) { whole } else { odd };
     old_bytes(random, length)
 }
@@ -81,8 +86,8 @@ pub fn book(random: &mut Random) -> Vec<u8> {
 pub fn slot(random: &mut Random, book: &[u8]) -> u64 {
     match random.below(10) {
         0 => random.pick(SLOTS),
-        1 => (book.len() / 1_024) as u64,
-        _ => random.below((book.len() / 1_024).max(1)) as u64,
+        1 => (book.len() / SLOT_BYTES) as u64,
+        _ => random.below((book.len() / SLOT_BYTES).max(1)) as u64,
     }
 }
 
@@ -100,8 +105,9 @@ pub fn group(random: &mut Random, message: &[u8]) -> u64 {
 
 /// The length of the reply that a message would get; 0 where it gets none.
 pub fn reply_length(message: &[u8]) -> usize {
-    let mut line = b"reply ".to_vec();
-    spelling::string(message, &mut line);
-    line.extend_from_slice(b" =20240305101501 =K1 =%00*1199;");
+    let mut line = b"reply".to_vec();
+    for word in [message, STAMP.as_bytes(), REPLY_NUMBER.as_bytes(), &[0; MOST_REPLY_BYTES]] {
+        spelling::word(word, &mut line);
+    }
     spelling::written(&spelling::answer(&line)).unwrap_or(0)
 }

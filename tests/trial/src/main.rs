@@ -1,9 +1,65 @@
 //! The maker of the corpus of calls, and the driver that compares two programs on random ones.
+//!
+//! The commands:
+//!
+//! - `corpus` prints the calls that are stored beside those written by hand: some are about the sample messages of a
+//!   folder, some are random.
+//! - `table` counts the answers to stored calls. It ends with status 1 where a refusal or a reason is met too seldom.
+//! - `calls` prints random calls.
+//! - `fuzz` hands random calls to another program and compares its answers with the second program's. It ends when the
+//!   time is over, or with status 1 at the first difference, which it saves in a folder.
+//!
+//! `tests/corpus` runs the first two, `tests/fuzz` the last.
+//!
+//! The modules, in the order in which to read them; each names only those before it.
+//!
+//! Ground:
+//! - `numbers`: document 01's numbers outside the profile
+//! - `profile`: its profile: listed fields and leaves with their types, limits and lists
+//! - `random`: random numbers from a seed
+//! - `spelling`: the words of calls and answers, and the second program's answer to a call
+//!
+//! Values and messages:
+//! - `values`: values of leaves: good ones, ones at a limit, and ones that are nearly good
+//! - `draft`: a message in parts that can be altered before it is written out
+//! - `short`: segments with what is required and no more
+//! - `worked`: the worked messages of document 01
+//! - `valid`: random messages that keep every rule
+//! - `newer`: what a newer sender adds to a message
+//! - `tour`: messages with every listed field, altered at one place at a time
+//! - `large`: messages about the greatest length and the greatest number of segments
+//!
+//! Damage:
+//! - `damage`: what a kind of damage is, and how one is chosen
+//! - `leaves`: damage to the leaves and fields of a draft
+//! - `order`: damage to the succession of its segments
+//! - `frame`: damage to the bytes of a written message
+//! - `slips`: damage to the slips of a book; good ones are filed by the second program
+//!
+//! Calls:
+//! - `places`: places to be looked up
+//! - `lent`: what else a call has: stamps, reply numbers, buffers, books, groups and slots
+//! - `generator`: random messages of every sort, and bundles of calls about them
+//!
+//! The stored calls:
+//! - `corpus`: calls gathered line by line
+//! - `edges`: every edge once, on short messages
+//! - `stored`: all that are stored
+//!
+//! Answers compared and counted:
+//! - `lines`: lines as programs read and print them
+//! - `table`: how often each entry gave each answer
+//! - `round`: calls for the other program, the answers it must give, and the pairs that must agree
+//! - `child`: the other program, run on a round
+//! - `fuzz`: round after round, until a difference or the end of the time
+//!
+//! `tests` holds the generator as a whole against the second program.
 
 #![forbid(unsafe_code)]
 
 mod child;
 mod corpus;
+mod damage;
 mod draft;
 mod edges;
 mod frame;
@@ -12,14 +68,18 @@ mod generator;
 mod large;
 mod leaves;
 mod lent;
+mod lines;
 mod newer;
+mod numbers;
 mod order;
 mod places;
 mod profile;
 mod random;
 mod round;
+mod short;
 mod slips;
 mod spelling;
+mod stored;
 mod table;
 #[cfg(test)]
 mod tests;
@@ -33,7 +93,7 @@ use std::fs;
 use std::io::{self, BufWriter, Write};
 use std::process::ExitCode;
 
-use round::Lines;
+use lines::Lines;
 
 const USAGE: &str = "usage: trial corpus SAMPLES SEED
        trial table CALLS ANSWERS
@@ -88,7 +148,7 @@ fn run(words: &[&str]) -> Result<bool, String> {
     let told = |error: io::Error| error.to_string();
     match words {
         ["corpus", samples, seed] => {
-            print_lines(&corpus::make(samples, number(seed)?)?.lines).map_err(told)?;
+            print_lines(&stored::make(samples, number(seed)?)?.lines).map_err(told)?;
             Ok(true)
         }
         ["table", calls, answers] => table(calls, answers),

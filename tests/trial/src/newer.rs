@@ -1,6 +1,6 @@
 //! What a newer sender adds: segments, fields, components and subcomponents that the profile does not list.
 
-use crate::draft::{Draft, Segment};
+use crate::draft::{Draft, Segment, WITHIN_FIELD};
 use crate::profile::{fields_of, leaves, Field};
 use crate::random::Random;
 use crate::values::{of, text, NEAR_ESCAPES};
@@ -34,7 +34,7 @@ pub fn unlisted_segment(random: &mut Random) -> Segment {
     let name = random.pick(UNLISTED);
     let mut segment = Segment::new(name.as_bytes());
     for _ in 0..random.between(0, 4) {
-        let field = anything(random, b"~^&");
+        let field = anything(random, WITHIN_FIELD);
         segment.fields.push(field);
     }
     segment
@@ -63,7 +63,7 @@ fn add_field(random: &mut Random, draft: &mut Draft) {
         let number = random.between(1, 30);
         let header = draft.segments[at].name == b"MSH" && number < 3;
         if !header && fields.iter().all(|field| field.number != number) {
-            *draft.segments[at].field(number) = anything(random, b"~^&");
+            *draft.segments[at].field(number) = anything(random, WITHIN_FIELD);
         }
     }
 }
@@ -75,12 +75,12 @@ fn add_part(random: &mut Random, draft: &mut Draft) {
         let listed = leaves(field.kind);
         let most = random.pick(&[9, 9, 9, 9, 9, 9, 9, 40]);
         let component = random.between(1, most);
-        let sub = random.pick(&[1, 1, 2, 3, 4, 5]);
-        let known = listed.iter().any(|leaf| (leaf.component, leaf.sub) == (component, sub));
+        let subcomponent = random.pick(&[1, 1, 2, 3, 4, 5]);
+        let known = listed.iter().any(|leaf| (leaf.component, leaf.subcomponent) == (component, subcomponent));
         let repetition = if random.one_in(4) { random.between(1, field.most) } else { 1 };
         if !known && field.kind != "*" {
-            let value = anything(random, if sub == 1 { b"" } else { b"&" });
-            draft.segments[at].put(field.number, [repetition, component, sub], &value);
+            let value = anything(random, if subcomponent == 1 { b"" } else { b"&" });
+            draft.segments[at].put(field.number, [repetition, component, subcomponent], &value);
         }
     }
 }
@@ -90,9 +90,10 @@ fn add_to_value(random: &mut Random, draft: &mut Draft) {
     let observations = draft.named(b"OBX");
     if !observations.is_empty() {
         let at = random.pick(&observations);
-        let (component, sub) = random.pick(&[(1, 2), (1, 3), (2, 2), (4, 2), (7, 1), (7, 2), (8, 1), (2, 1), (5, 1)]);
+        let (component, subcomponent) =
+            random.pick(&[(1, 2), (1, 3), (2, 2), (4, 2), (7, 1), (7, 2), (8, 1), (2, 1), (5, 1)]);
         let value = anything(random, b"&");
-        draft.segments[at].put(5, [1, component, sub], &value);
+        draft.segments[at].put(5, [1, component, subcomponent], &value);
     }
 }
 

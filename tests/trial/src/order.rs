@@ -1,7 +1,7 @@
 //! Damage to the succession of a draft's segments. A draft keeps one segment at least.
 
+use crate::damage::Damage;
 use crate::draft::{Draft, Segment};
-use crate::generator::Damages;
 use crate::newer::UNLISTED;
 use crate::profile::NAMES;
 use crate::random::Random;
@@ -104,7 +104,7 @@ fn other_header(random: &mut Random, draft: &mut Draft) {
     }
 }
 
-pub static DAMAGES: &Damages<Draft> = &[
+pub static DAMAGES: &[Damage<Draft>] = &[
     ("segment left out", 9, drop_one),
     ("segments swapped", 6, swap),
     ("segment doubled", 5, double),

@@ -19,8 +19,8 @@ impl Place {
 
     /// The words of a call that follow the message.
     pub fn words(&self) -> Vec<u8> {
-        let mut out = vec![b' '];
-        spelling::string(&self.name, &mut out);
+        let mut out = Vec::new();
+        spelling::word(&self.name, &mut out);
         for number in self.numbers {
             spelling::number(number, &mut out);
         }
@@ -30,14 +30,14 @@ impl Place {
 
 /// Whether demand 3 speaks of a place. In OBX-5 the type decides, and that is looked up.
 pub fn listed(message: &[u8], place: &Place) -> bool {
-    let [occurrence, field, _, component, sub] = place.numbers;
+    let [occurrence, field, _, component, subcomponent] = place.numbers;
     let kind = if place.name == b"OBX" && field == 5 { kind(message, occurrence) } else { "ST" };
-    is_listed(&place.name, field, component, sub, kind)
+    is_listed(&place.name, field, component, subcomponent, kind)
 }
 
 fn kind(message: &[u8], occurrence: u64) -> &'static str {
-    let mut line = b"look ".to_vec();
-    spelling::string(message, &mut line);
+    let mut line = b"look".to_vec();
+    spelling::word(message, &mut line);
     line.extend(Place::new("OBX", [occurrence, 2, 1, 1, 1]).words());
     let named = spelling::last_string(&spelling::answer(&line)).unwrap_or_default();
     TYPES.iter().find(|kind| kind.as_bytes() == named).copied().unwrap_or("ST")
@@ -94,7 +94,7 @@ fn likely(random: &mut Random, message: &[u8]) -> Place {
     let kind = if field.kind == "*" { random.pick(TYPES) } else { field.kind };
     let leaf = random.pick(leaves(kind));
     let repetition = if random.one_in(4) { random.between(1, field.most + 1) } else { 1 };
-    let numbers = [occurrence, field.number as u64, repetition as u64, leaf.component as u64, leaf.sub as u64];
+    let numbers = [occurrence, field.number as u64, repetition as u64, leaf.component as u64, leaf.subcomponent as u64];
     Place { name, numbers }
 }
 

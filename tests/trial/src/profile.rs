@@ -17,7 +17,7 @@ pub enum Simple {
 #[derive(Clone, Copy)]
 pub struct Leaf {
     pub component: usize,
-    pub sub: usize,
+    pub subcomponent: usize,
     pub simple: Simple,
     pub starred: bool,
 }
@@ -84,13 +84,16 @@ pub static FIELDS: &[Field] = &[
     may("NTE", 3, "FT", 8),
 ];
 
-const fn leaf(component: usize, sub: usize, simple: Simple) -> Leaf {
-    Leaf { component, sub, simple, starred: false }
+const fn leaf(component: usize, subcomponent: usize, simple: Simple) -> Leaf {
+    Leaf { component, subcomponent, simple, starred: false }
 }
 
 const fn star(component: usize, simple: Simple) -> Leaf {
-    Leaf { component, sub: 1, simple, starred: true }
+    Leaf { component, subcomponent: 1, simple, starred: true }
 }
+
+/// The leaves of an ST, and of OBX-5 where OBX-2 names no type.
+const ST: &[Leaf] = &[leaf(1, 1, Short)];
 
 static KINDS: &[(&str, &[Leaf])] = &[
     ("HD", &[leaf(1, 1, Code), leaf(2, 1, Short), leaf(3, 1, Code)]),
@@ -114,12 +117,12 @@ static KINDS: &[(&str, &[Leaf])] = &[
     ("TM", &[leaf(1, 1, Tm)]),
     ("FT", &[leaf(1, 1, Long)]),
     ("TX", &[leaf(1, 1, Long)]),
-    ("ST", &[leaf(1, 1, Short)]),
+    ("ST", ST),
 ];
 
-/// The listed leaves of a type, rising.
+/// The listed leaves of a type, rising; those of an ST where there is no such type.
 pub fn leaves(kind: &str) -> &'static [Leaf] {
-    KINDS.iter().find(|row| row.0 == kind).unwrap_or(&KINDS[18]).1
+    KINDS.iter().find(|row| row.0 == kind).map_or(ST, |row| row.1)
 }
 
 /// The longest that a leaf may be, in written bytes.
@@ -128,12 +131,19 @@ pub fn limit(field: &Field, simple: Simple) -> usize {
         ("MSH", 10, _) | ("OBX", 4, _) => 20,
         ("OBX", 2, _) => 3,
         ("OBX", 7, _) => 60,
-        (_, _, Si) => 4,
-        (_, _, Code) => 20,
-        (_, _, Nm) | (_, _, Tm) => 16,
-        (_, _, Dtm) => 24,
-        (_, _, Short) => 199,
-        (_, _, Long) => 4_096,
+        _ => type_limit(simple),
+    }
+}
+
+/// The same where the field has no limit of its own.
+pub fn type_limit(simple: Simple) -> usize {
+    match simple {
+        Si => 4,
+        Code => 20,
+        Nm | Tm => 16,
+        Dtm => 24,
+        Short => 199,
+        Long => 4_096,
     }
 }
 
@@ -167,8 +177,8 @@ pub fn fields_of(name: &[u8]) -> &'static [Field] {
 }
 
 /// Whether a leaf is listed, where `kind` is the type that OBX-5 has there.
-pub fn is_listed(name: &[u8], number: u64, component: u64, sub: u64, kind: &str) -> bool {
-    let fits = |leaf: &Leaf| (leaf.component as u64, leaf.sub as u64) == (component, sub);
+pub fn is_listed(name: &[u8], number: u64, component: u64, subcomponent: u64, kind: &str) -> bool {
+    let fits = |leaf: &Leaf| (leaf.component as u64, leaf.subcomponent as u64) == (component, subcomponent);
     let found = FIELDS.iter().find(|field| field.name.as_bytes() == name && field.number as u64 == number);
     match found {
         Some(field) if field.kind == "*" => leaves(kind).iter().any(fits),

@@ -1,7 +1,11 @@
 //! A round: calls for the child, the answers it must give, and the pairs that demand 3 speaks of.
 
 use crate::generator::{Ask, Bundle, Generator};
+use crate::lines::Lines;
 use crate::spelling;
+
+/// A round is not made much longer, so that it is soon answered.
+const MOST_ROUND_BYTES: usize = 8_000_000;
 
 /// Two calls of a round whose answers must agree, by their numbers in the round.
 pub struct Pair {
@@ -17,41 +21,6 @@ pub struct Round {
     pub calls: Lines,
     pub expected: Lines,
     pub pairs: Vec<Pair>,
-}
-
-/// Lines with their ends, one after another.
-#[derive(Default)]
-pub struct Lines {
-    pub bytes: Vec<u8>,
-    ends: Vec<usize>,
-}
-
-impl Lines {
-    pub fn push(&mut self, line: &[u8]) {
-        self.bytes.extend_from_slice(line);
-        self.end();
-    }
-
-    fn end(&mut self) {
-        self.bytes.push(b'\n');
-        self.ends.push(self.bytes.len());
-    }
-
-    /// Lines of what a program printed; a last one without its end is no line.
-    pub fn of(bytes: Vec<u8>) -> Lines {
-        let ends = (0..bytes.len()).filter(|at| bytes[*at] == b'\n').map(|at| at + 1).collect();
-        Lines { bytes, ends }
-    }
-
-    pub fn len(&self) -> usize {
-        self.ends.len()
-    }
-
-    /// A line without its end.
-    pub fn line(&self, at: usize) -> &[u8] {
-        let start = if at == 0 { 0 } else { self.ends[at - 1] };
-        &self.bytes[start..self.ends[at] - 1]
-    }
 }
 
 impl Round {
@@ -89,7 +58,7 @@ impl Round {
     /// A round of about so many calls; fewer where they are long.
     pub fn make(generator: &mut Generator, calls: usize) -> Round {
         let mut round = Round::default();
-        while round.calls.len() < calls && round.calls.bytes.len() < 8_000_000 {
+        while round.calls.len() < calls && round.calls.bytes.len() < MOST_ROUND_BYTES {
             round.add(&generator.bundle());
         }
         round
@@ -112,13 +81,6 @@ pub fn agree(pair: &Pair, one: &[u8], other: &[u8]) -> bool {
 #[cfg(test)]
 mod tests {
     use super::*;
-
-    #[test]
-    fn lines_are_told_apart() {
-        let lines = Lines::of(b"a\n\nbc\nd".to_vec());
-        assert_eq!(lines.len(), 3);
-        assert_eq!((lines.line(0), lines.line(1), lines.line(2)), (&b"a"[..], &b""[..], &b"bc"[..]));
-    }
 
     #[test]
     fn look_ups_agree_by_their_bytes() {

@@ -1,5 +1,6 @@
 //! Books with slips in them, good ones and damaged ones.
 
+use crate::numbers::SLOT_BYTES;
 use crate::random::Random;
 use crate::spelling;
 use crate::values::text;
@@ -43,7 +44,7 @@ pub fn slip(fields: &[(u8, Vec<u8>)]) -> Vec<u8> {
         out.extend_from_slice(&[*tag, (value.len() >> 8) as u8, value.len() as u8]);
         out.extend_from_slice(value);
     }
-    out.resize(out.len().max(1_024), 0);
+    out.resize(out.len().max(SLOT_BYTES), 0);
     out
 }
 
@@ -96,11 +97,12 @@ fn field_tags(random: &mut Random, fields: &mut Fields) {
 /// One byte of the slot: of the lengths and tags, of the zeros after, or any.
 fn slot_byte(random: &mut Random, slot: &mut [u8]) {
     let used = slot.iter().rposition(|byte| *byte != 0).map_or(0, |at| at + 1);
+    let last = SLOT_BYTES - 1;
     let at = match random.below(6) {
-        0 => 1_023,
-        1 => used.min(1_023),
-        2 => random.below(1_024),
-        3 => random.between(used.min(1_023), 1_023),
+        0 => last,
+        1 => used.min(last),
+        2 => random.below(SLOT_BYTES),
+        3 => random.between(used.min(last), last),
         _ => random.below(used.max(1)),
     };
     slot[at] = match random.below(3) {
@@ -127,7 +129,7 @@ fn damaged(random: &mut Random, good: &[u8]) -> Vec<u8> {
         }
     }
     let mut slot = slip(&fields);
-    slot.truncate(1_024);
+    slot.truncate(SLOT_BYTES);
     if random.one_in(4) {
         slot_byte(random, &mut slot);
     }
@@ -137,8 +139,8 @@ fn damaged(random: &mut Random, good: &[u8]) -> Vec<u8> {
 /// The same book with some of its slots' slips damaged; the bytes beyond the slots too.
 pub fn damaged_book(random: &mut Random, book: &[u8]) -> Vec<u8> {
     let mut out = Vec::with_capacity(book.len());
-    for part in book.chunks(1_024) {
-        if part.len() == 1_024 && part[0] == 1 {
+    for part in book.chunks(SLOT_BYTES) {
+        if part.len() == SLOT_BYTES && part[0] == 1 {
             out.extend(damaged(random, part));
         } else {
             out.extend_from_slice(part);
@@ -161,7 +163,7 @@ mod tests {
     fn fields_of_a_slip_go_there_and_back() {
         let list: Fields = vec![(1, b"C7".to_vec()), (2, vec![b'x'; 199]), (6, vec![0, 1])];
         let written = slip(&list);
-        assert_eq!(written.len(), 1_024);
+        assert_eq!(written.len(), SLOT_BYTES);
         assert_eq!(fields(&written), list);
     }
 }

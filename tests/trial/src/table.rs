@@ -3,17 +3,22 @@
 use std::collections::BTreeMap;
 use std::fmt;
 
+use crate::numbers::{REASONS, REFUSALS};
+
 /// Each refusal and each reason must be met so often.
 pub const ENOUGH: usize = 20;
 
-const ENTRIES: &[&str] = &["judge", "look", "resolve", "reply", "file", "read", "other"];
+/// The entries, and last what is no call.
+const ENTRIES: [&str; 7] = ["judge", "look", "resolve", "reply", "file", "read", "other"];
+const OTHER: usize = ENTRIES.len() - 1;
 
 #[derive(Default)]
 pub struct Table {
     /// For the place of an entry: answers by sort and number.
-    answers: [BTreeMap<(String, usize), usize>; 7],
-    pub refusals: [usize; 21],
-    pub reasons: [usize; 13],
+    answers: [BTreeMap<(String, usize), usize>; ENTRIES.len()],
+    /// By number; the place 0 is not used.
+    pub refusals: [usize; REFUSALS + 1],
+    pub reasons: [usize; REASONS + 1],
     pub calls: usize,
 }
 
@@ -32,11 +37,11 @@ impl Table {
         let (detail, good) = match &sort[..] {
             "refused" => {
                 let detail = number(words.next());
-                (detail, (1..=20).contains(&detail))
+                (detail, (1..=REFUSALS).contains(&detail))
             }
             "fault" => {
                 let detail = number(words.next_back());
-                (detail, (1..=12).contains(&detail))
+                (detail, (1..=REASONS).contains(&detail))
             }
             "accepted" | "empty" | "text" | "written" | "filed" | "value" | "no" => (0, true),
             _ => (0, false),
@@ -50,16 +55,16 @@ impl Table {
             _ => (),
         }
         self.calls += 1;
-        *self.answers[named.unwrap_or(6)].entry((sort, detail)).or_insert(0) += 1;
+        *self.answers[named.unwrap_or(OTHER)].entry((sort, detail)).or_insert(0) += 1;
         true
     }
 
     /// What is met too seldom.
     pub fn lacking(&self) -> Vec<String> {
         let refusals =
-            (1..=20).filter(|number| self.refusals[*number] < ENOUGH).map(|number| format!("refusal {}", number));
+            (1..=REFUSALS).filter(|number| self.refusals[*number] < ENOUGH).map(|number| format!("refusal {}", number));
         let reasons =
-            (1..=12).filter(|number| self.reasons[*number] < ENOUGH).map(|number| format!("reason {}", number));
+            (1..=REASONS).filter(|number| self.reasons[*number] < ENOUGH).map(|number| format!("reason {}", number));
         refusals.chain(reasons).collect()
     }
 }
@@ -81,10 +86,10 @@ impl fmt::Display for Table {
                 writeln!(out, "  {:<18} {:>9}", title(sort, *detail), count)?;
             }
         }
-        for number in 1..=20 {
+        for number in 1..=REFUSALS {
             writeln!(out, "refusal {:>2} {:>9}", number, self.refusals[number])?;
         }
-        for number in 1..=12 {
+        for number in 1..=REASONS {
             writeln!(out, "reason  {:>2} {:>9}", number, self.reasons[number])?;
         }
         writeln!(out, "calls      {:>9}", self.calls)
@@ -93,7 +98,7 @@ impl fmt::Display for Table {
 
 #[cfg(test)]
 mod tests {
-    use super::Table;
+    use super::*;
 
     #[test]
     fn answers_are_counted_by_entry_and_number() {
@@ -105,7 +110,7 @@ mod tests {
         assert!(!table.add(b"judge =x", b"refused 21"));
         assert!(!table.add(b"judge =x", b"perhaps"));
         assert_eq!((table.refusals[4], table.reasons[7], table.calls), (2, 1, 4));
-        assert_eq!(table.lacking().len(), 32);
+        assert_eq!(table.lacking().len(), REFUSALS + REASONS);
         assert!(table.to_string().contains("no call"));
     }
 }

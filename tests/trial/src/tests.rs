@@ -2,6 +2,7 @@
 
 use crate::generator::Generator;
 use crate::large;
+use crate::numbers::{MOST_BYTES, MOST_SEGMENTS, SLOT_BYTES};
 use crate::profile::TYPES;
 use crate::round::Round;
 use crate::slips;
@@ -37,7 +38,7 @@ fn the_worked_reply_and_slip_are_made() {
     spelling::word(&buffer, &mut written);
     assert_eq!(spelling::answer(&line), written);
     let slip = b"\x01\0\x02C7\x02\0\x03A55\x04\0\x02F9\x05\0\x0754089-8\x06\0\x02\0\x01".to_vec();
-    let book = slips::filed(&worked::m().write(), 1, 0, &[b'#'; 1_024]);
+    let book = slips::filed(&worked::m().write(), 1, 0, &[b'#'; SLOT_BYTES]);
     assert_eq!(book, Some([slip, vec![0; 993]].concat()));
 }
 
@@ -62,14 +63,14 @@ fn additions_leave_most_messages_accepted() {
 #[test]
 fn greatest_sizes_are_accepted_or_not_as_told() {
     for (name, line, accepted) in large::MANY {
-        assert_eq!(judged(&large::many(line, 512)) == "accepted", *accepted, "{}", name);
-        assert_eq!(judged(&large::many(line, 513)), "refused 8", "{}", name);
+        assert_eq!(judged(&large::many(line, MOST_SEGMENTS)) == "accepted", *accepted, "{}", name);
+        assert_eq!(judged(&large::many(line, MOST_SEGMENTS + 1)), "refused 8", "{}", name);
     }
     for (row, shape) in large::LONG.iter().enumerate() {
-        assert_eq!(judged(&large::long(row, 65_535)) == "accepted", shape.4, "{}", shape.0);
-        assert_eq!(judged(&large::long(row, 65_536)), "refused 2", "{}", shape.0);
+        assert_eq!(judged(&large::long(row, MOST_BYTES)) == "accepted", shape.4, "{}", shape.0);
+        assert_eq!(judged(&large::long(row, MOST_BYTES + 1)), "refused 2", "{}", shape.0);
     }
-    assert_eq!(judged(&large::notes(65_535)), "accepted");
+    assert_eq!(judged(&large::notes(MOST_BYTES)), "accepted");
 }
 
 #[test]

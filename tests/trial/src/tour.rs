@@ -1,7 +1,8 @@
 //! A tour of the profile: one message with every listed field, altered at one place at a time.
 
-use crate::draft::{put, Draft, Segment};
-use crate::profile::{fields_of, leaves, limit, list, Field, Leaf, Simple, FIELDS, TYPES};
+use crate::draft::{put, Draft, Segment, WITHIN_FIELD};
+use crate::profile::{fields_of, leaves, limit, list, Field, Leaf, Simple, FIELDS, NAMES, TYPES};
+use crate::values::{LONGEST_MOMENT, LONGEST_TIME};
 
 /// A short value that the leaf allows.
 fn plain(field: &Field, leaf: &Leaf) -> Vec<u8> {
@@ -18,7 +19,7 @@ fn plain(field: &Field, leaf: &Leaf) -> Vec<u8> {
 fn text(field: &Field, kind: &str) -> Vec<u8> {
     let mut text = Vec::new();
     for leaf in leaves(kind) {
-        text = put(&text, b"~^&", &[1, leaf.component, leaf.sub], &plain(field, leaf));
+        text = put(&text, WITHIN_FIELD, &[1, leaf.component, leaf.subcomponent], &plain(field, leaf));
     }
     text
 }
@@ -26,7 +27,7 @@ fn text(field: &Field, kind: &str) -> Vec<u8> {
 /// Every listed segment once, every listed leaf filled, OBX-5 of that type.
 pub fn full(kind: &str) -> Draft {
     let mut segments = Vec::new();
-    for name in ["MSH", "PID", "NK1", "ORC", "OBR", "OBX", "NTE"] {
+    for name in NAMES {
         let mut segment = Segment::new(name.as_bytes());
         for field in fields_of(name.as_bytes()) {
             *segment.field(field.number) = text(field, if field.kind == "*" { kind } else { field.kind });
@@ -34,7 +35,9 @@ pub fn full(kind: &str) -> Draft {
         segments.push(segment);
     }
     let mut draft = Draft { segments };
-    *draft.segments[5].field(2) = kind.as_bytes().to_vec();
+    for at in draft.named(b"OBX") {
+        *draft.segments[at].field(2) = kind.as_bytes().to_vec();
+    }
     draft
 }
 
@@ -51,14 +54,14 @@ fn of_leaf(draft: &Draft, field: &Field, leaf: &Leaf) -> Vec<Vec<u8>> {
     let most = limit(field, leaf.simple);
     let longest = match leaf.simple {
         Simple::Si | Simple::Nm => b"1".repeat(most),
-        Simple::Dtm => b"20240131235959.1234+1459".to_vec(),
-        Simple::Tm => b"235959.1234-1459".to_vec(),
+        Simple::Dtm => LONGEST_MOMENT.to_vec(),
+        Simple::Tm => LONGEST_TIME.to_vec(),
         _ => b"x".repeat(most),
     };
     let over = [&longest[..], b"1"].concat();
     let values = [&b""[..], &longest, &over, b"\\E", b"1x"];
-    let place = [1, leaf.component, leaf.sub];
-    values.iter().map(|value| altered(draft, field, |text| *text = put(text, b"~^&", &place, value))).collect()
+    let place = [1, leaf.component, leaf.subcomponent];
+    values.iter().map(|value| altered(draft, field, |text| *text = put(text, WITHIN_FIELD, &place, value))).collect()
 }
 
 /// Codes beside each list: in small letters, cut, lengthened, doubled, and of other lists.
@@ -69,8 +72,8 @@ fn of_list(draft: &Draft, field: &Field, leaf: &Leaf) -> Vec<Vec<u8>> {
         values.extend(["X", " "].iter().map(|end| [code, *end].concat().into_bytes()));
         values.extend(["B", "K", "ADT", "R21", "2.3"].iter().map(|other| other.as_bytes().to_vec()));
     }
-    let place = [1, leaf.component, leaf.sub];
-    values.iter().map(|value| altered(draft, field, |text| *text = put(text, b"~^&", &place, value))).collect()
+    let place = [1, leaf.component, leaf.subcomponent];
+    values.iter().map(|value| altered(draft, field, |text| *text = put(text, WITHIN_FIELD, &place, value))).collect()
 }
 
 /// A field empty, with the greatest number of repetitions, with one more, with nothing in its first, with a bad escape

@@ -18,16 +18,16 @@ fn value(random: &mut Random, field: &Field, leaf: &Leaf) -> Vec<u8> {
 /// One repetition with some of its listed leaves, at least one.
 fn repetition(random: &mut Random, field: &Field, listed: &[Leaf], out: &mut Vec<u8>) {
     let sure = random.below(listed.len());
-    let (mut component, mut sub) = (1, 1);
+    let (mut component, mut subcomponent) = (1, 1);
     for (at, leaf) in listed.iter().enumerate() {
         if leaf.starred || at == sure || random.percent(40) {
             if component < leaf.component {
                 out.resize(out.len() + leaf.component - component, b'^');
-                sub = 1;
+                subcomponent = 1;
             }
-            out.resize(out.len() + leaf.sub - sub, b'&');
+            out.resize(out.len() + leaf.subcomponent - subcomponent, b'&');
             component = leaf.component;
-            sub = leaf.sub;
+            subcomponent = leaf.subcomponent;
             out.extend(value(random, field, leaf));
         }
     }

@@ -131,6 +131,10 @@ pub fn good(random: &mut Random, simple: Simple, limit: usize) -> Vec<u8> {
     }
 }
 
+/// Values that have every part of their type, and so are as long as its limit.
+pub const LONGEST_MOMENT: &[u8] = b"20240131235959.1234+1459";
+pub const LONGEST_TIME: &[u8] = b"235959.1234-1459";
+
 /// A value one below, at, or one above its limit; of its type where a value of such a length can be.
 pub fn at_limit(random: &mut Random, simple: Simple, limit: usize) -> Vec<u8> {
     let length = limit + random.below(3) - 1;
@@ -138,8 +142,8 @@ pub fn at_limit(random: &mut Random, simple: Simple, limit: usize) -> Vec<u8> {
         Simple::Si => of(random, DIGITS, length),
         Simple::Nm if random.one_in(2) => of(random, DIGITS, length),
         Simple::Nm => [b"-".to_vec(), of(random, DIGITS, 5), b".".to_vec(), of(random, DIGITS, length - 7)].concat(),
-        Simple::Dtm => b"20240131235959.1234+1459".to_vec(),
-        Simple::Tm => b"235959.1234-1459".to_vec(),
+        Simple::Dtm => LONGEST_MOMENT.to_vec(),
+        Simple::Tm => LONGEST_TIME.to_vec(),
         _ => text(random, length),
     };
     if length < whole.len() {

@@ -1,10 +1,11 @@
-//! The worked messages P1 to P12 of document 01.
+//! The worked messages of document 01. P3 and P4, a slip and a reply, are of two that stand here anyway.
 
 use crate::draft::{Draft, Segment};
 
 fn segment(line: &str) -> Segment {
     let mut parts = line.split('|').map(|part| part.as_bytes().to_vec());
     let name = parts.next().unwrap_or_default();
+    // a draft's header starts with MSH-3
     let skipped = if name == b"MSH" { 1 } else { 0 };
     Segment { name, fields: parts.skip(skipped).collect() }
 }
@@ -27,7 +28,8 @@ fn with(at: usize, number: usize, value: &str) -> Vec<u8> {
     draft.write()
 }
 
-fn cut(change: fn(&mut Draft)) -> Vec<u8> {
+/// M with its segments changed.
+fn changed(change: fn(&mut Draft)) -> Vec<u8> {
     let mut draft = m();
     change(&mut draft);
     draft.write()
@@ -40,12 +42,12 @@ pub fn messages() -> Vec<(Vec<u8>, &'static str)> {
     vec![
         (m().write(), "accepted"),
         (with(3, 5, "3.1x"), "fault OBX 1 5 1 1 1 102 7"),
-        (cut(|draft| draft.segments.insert(2, segment("ZZX|a\\b"))), "accepted"),
+        (changed(|draft| draft.segments.insert(2, segment("ZZX|a\\b"))), "accepted"),
         (with(3, 5, "3.16^x"), "accepted"),
-        (cut(|draft| drop(draft.segments.remove(1))), "fault OBR 1 0 0 0 0 100 1"),
+        (changed(|draft| drop(draft.segments.remove(1))), "fault OBR 1 0 0 0 0 100 1"),
         (with(0, 10, ""), "fault MSH 1 10 1 0 0 101 3"),
         (no_end, "refused 5"),
-        (cut(|draft| draft.segments.truncate(2)), "fault PID 1 0 0 0 0 100 2"),
+        (changed(|draft| draft.segments.truncate(2)), "fault PID 1 0 0 0 0 100 2"),
         (with(1, 3, "A~A~A~A~A~A"), "fault PID 1 3 6 0 0 102 4"),
         (with(3, 4, "ABCDEFGHIJKLMNOPQRST"), "accepted"),
         (with(3, 4, "ABCDEFGHIJKLMNOPQRSTU"), "fault OBX 1 4 1 1 1 102 5"),
