@@ -5,6 +5,7 @@ ghost use Rattle.text.specs.Bytes.{isOne};
 ghost use Rattle.profile.specs.Table.{ofType, among};
 ghost use Rattle.profile.specs.Lists.{oneEach};
 ghost use Rattle.profile.specs.Numbers.{simpleOf, codesOf, segmentNumber, typeNumber};
+use profile::numbers;
 use text::is_same;
 use types::is_dtm;
 use types::is_nm;
@@ -16,10 +17,10 @@ pub fn is_of_type(n: u16, s: &[u8]) -> bool
     ensures { λ r. ⌜ r ≡ ofType (simpleOf n) (now (s .entry)) ⌝ }
 {
     match n {
-        1 => is_si(s),
-        2 => is_nm(s),
-        3 => is_dtm(s),
-        4 => is_tm(s),
+        numbers::SI => is_si(s),
+        numbers::NM => is_nm(s),
+        numbers::DTM => is_dtm(s),
+        numbers::TM => is_tm(s),
         _ => true,
     }
 }
@@ -46,27 +47,27 @@ fn two_letter_type(a: u8, b: u8) -> u16
     ensures { λ r. ⌜ r ≡ typeNumber (a ∷ b ∷ []) ⌝ }
 {
     if (a == b'C') & (b == b'E') {
-        return 8;
+        return numbers::AS_CE;
     }
     if (a == b'F') & (b == b'T') {
-        return 10;
+        return numbers::AS_FT;
     }
     if (a == b'N') & (b == b'M') {
-        return 11;
+        return numbers::AS_NM;
     }
     if (a == b'S') & (b == b'N') {
-        return 12;
+        return numbers::AS_SN;
     }
     if (a == b'S') & (b == b'T') {
-        return 13;
+        return numbers::AS_ST;
     }
     if (a == b'T') & (b == b'M') {
-        return 14;
+        return numbers::AS_TM;
     }
     if (a == b'T') & (b == b'X') {
-        return 15;
+        return numbers::AS_TX;
     }
-    16
+    numbers::AS_NONE
 }
 
 // The number of the type that a text names, 16 where it names none.
@@ -77,9 +78,9 @@ pub fn type_number(s: &[u8]) -> u16
         return two_letter_type(s[0], s[1]);
     }
     if is_same(s, b"DTM") {
-        return 9;
+        return numbers::AS_DTM;
     }
-    16
+    numbers::AS_NONE
 }
 
 // Whether a text is in the list with that number; list 0 takes any text.
@@ -87,17 +88,17 @@ pub fn is_in_list(n: u16, s: &[u8]) -> bool
     ensures { λ r. ⌜ r ≡ among (codesOf n) (now (s .entry)) ⌝ }
 {
     match n {
-        0 => true,
-        1 => is_same(s, b"ORU"),
-        2 => is_same(s, b"R01"),
-        3 => is_letter(s, b"DPT"),
-        4 => is_same(s, b"2.5.1"),
-        5 => is_letter(s, b"AFMNOU"),
-        6 => is_letter(s, b"YN"),
-        7 => is_same(s, b"RE"),
-        8 => is_letter(s, b"ACFIOPRSXYZ"),
-        9 => type_number(s) < 16,
-        10 => is_letter(s, b"CDFINOPRSUWX"),
+        numbers::ANY => true,
+        numbers::MESSAGE_TYPES => is_same(s, b"ORU"),
+        numbers::EVENTS => is_same(s, b"R01"),
+        numbers::PROCESSING_IDS => is_letter(s, b"DPT"),
+        numbers::VERSIONS => is_same(s, b"2.5.1"),
+        numbers::SEXES => is_letter(s, b"AFMNOU"),
+        numbers::YES_NO => is_letter(s, b"YN"),
+        numbers::ORDER_CONTROLS => is_same(s, b"RE"),
+        numbers::RESULT_STATUSES => is_letter(s, b"ACFIOPRSXYZ"),
+        numbers::VALUE_TYPES => type_number(s) < numbers::AS_NONE,
+        numbers::OBSERVATION_STATUSES => is_letter(s, b"CDFINOPRSUWX"),
         _ => false,
     }
 }
@@ -108,13 +109,13 @@ pub fn segment_number(a: u8, b: u8, c: u8) -> u16
 {
     let name = (a as u32) * 65536 + (b as u32) * 256 + c as u32;
     match name {
-        0x4D5348 => 1, // MSH
-        0x504944 => 2, // PID
-        0x4E4B31 => 3, // NK1
-        0x4F5243 => 4, // ORC
-        0x4F4252 => 5, // OBR
-        0x4F4258 => 6, // OBX
-        0x4E5445 => 7, // NTE
-        _ => 0,
+        0x4D5348 => numbers::MSH,
+        0x504944 => numbers::PID,
+        0x4E4B31 => numbers::NK1,
+        0x4F5243 => numbers::ORC,
+        0x4F4252 => numbers::OBR,
+        0x4F4258 => numbers::OBX,
+        0x4E5445 => numbers::NTE,
+        _ => numbers::UNLISTED,
     }
 }

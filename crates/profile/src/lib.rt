@@ -3,6 +3,8 @@ ghost use Rattle.profile.specs.Numbers.{Tells};
 ghost use Rattle.profile.specs.Order.{Sound};
 ghost use Rattle.profile.specs.Profile.{profile01};
 
+pub mod columns;
+pub mod numbers;
 mod table;
 
 use table::PROFILE;
