@@ -2,6 +2,8 @@
 ghost use mathlib.Core.Path.{_≡_};
 ghost use Rattle.checks.specs.Fault;
 
+pub mod reasons;
+
 // The condition code of a reason.
 pub fn condition(reason: u8) -> u16
     ensures { λ r. ⌜ r ≡ Fault.condition reason ⌝ }

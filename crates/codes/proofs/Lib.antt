@@ -2,5 +2,6 @@ pub mod Numbered
 pub mod RowSteps
 pub mod Stretch
 pub mod Ascending
+pub mod Guided
 pub mod OneField
 pub mod Rules

@@ -13,12 +13,13 @@ use Rattle.text.specs.Bytes.{Text, pick, every}
 use Rattle.text.proofs.Tests.{both}
 use Rattle.text.proofs.Lists.{and-both}
 use Rattle.profile.specs.Table.{Listed, Row, Rule, rule, gather, gathered, leavesIn, leavesOf}
-use Rattle.profile.specs.Numbers.{leafOf, listedOf, rowOf, rowsWithin, tableOf}
-use Rattle.profile.specs.Order.{areOf, rises, isProper, sameField, Ordered}
-use Rattle.codes.specs.Inner.{ofField, Ascends, IsField, ruleAt, leavesNamed}
+use Rattle.profile.specs.Numbers.{leafOf, listedOf, rowOf, rowsWithin, tableOf, fieldColumn, repetitionsColumn, rowSize, segmentColumn, typeColumn, usageColumn, firstField, firstNamer, nextColumn, sureColumn}
+use Rattle.profile.specs.Order.{areOf, rises, isProper, sameField, Ordered, ofField, isSure, guides}
+use Rattle.codes.specs.Inner.{Ascends, SureUpTo, IsField, ruleAt, leavesNamed}
 use Rattle.codes.proofs.RowSteps.{rows-none, rows-next, rows-length, front-length, rows-cut}
 use Rattle.codes.proofs.Stretch as stretch
 use Rattle.codes.proofs.Stretch.{every-left, every-right}
+use Rattle.codes.proofs.Guided.{guides-first, guides-behind, sure-rows, sure-leaves}
 use Rattle.codes.proofs.Ascending.{Proper, proper-row, field-rises, rises-above, inField, one-field, isPlain, plain-rows, plain-leaves, named-alone, named-leaf, ascending}
 
 -- how many rows of a field come first
@@ -31,19 +32,11 @@ unfolding ofField
 field-le f [] = omega arith
 field-le f (r ∷ rs) = field-le-step (inField f r) (ofField f rs) (length rs) (field-le f rs)
 
--- a row further: of the field, of another, and none
+-- a row further: it is of the field
 module _ (t : List ℕ) (at end f : ℕ) where
-  pub field-on : 11 ≤ end - at → getD t (at + 1) 0 ≡ f → ofField f (rowsWithin at end t) ≡ suc (ofField f (rowsWithin (at + 11) end t))
+  field-on : rowSize ≤ end - at → getD t (at + fieldColumn) 0 ≡ f → ofField f (rowsWithin at end t) ≡ suc (ofField f (rowsWithin (at + rowSize) end t))
   unfolding ofField
-  field-on h e = rw (rows-next t at end h, eq-eqb (getD (drop at t) 1 0) f (getD-drop at t 1 0 ∙ e))
-
-  pub field-over : 11 ≤ end - at → (getD t (at + 1) 0 ≡ f → ⊥) → ofField f (rowsWithin at end t) ≡ 0
-  unfolding ofField
-  field-over h n = rw (rows-next t at end h, ne-eqb (getD (drop at t) 1 0) f (λ e. n (sym (getD-drop at t 1 0) ∙ e)))
-
-  pub field-none : end - at < 11 → ofField f (rowsWithin at end t) ≡ 0
-  unfolding ofField
-  field-none h = rw (rows-none t at end h)
+  field-on h e = rw (rows-next t at end h, eq-eqb (getD (drop at t) fieldColumn 0) f (getD-drop at t fieldColumn 0 ∙ e))
 
 -- as many as there are in front of the others: each of those is of the field, and the next is not
 counted : (b : Bool) (m n : ℕ) → pick b (suc m) 0 ≡ suc n → (b ≡ true) × (m ≡ n)
@@ -79,38 +72,38 @@ gather-apart q r (u ∷ us) e = apart-step q r (eqb (r .field) (u .field)) (r .l
 eqb-swap : (a b : ℕ) → eqb a b ≡ false → eqb b a ≡ false
 eqb-swap a b e = ne-eqb b a (λ h. eqb-false a b e (sym h))
 
-gathered-first : (n : Text) (x : List ℕ) (l r : List (List ℕ)) → ofField (getD x 1 0) (l ++ r) ≡ length l
+gathered-first : (n : Text) (x : List ℕ) (l r : List (List ℕ)) → ofField (getD x fieldColumn 0) (l ++ r) ≡ length l
     → gathered (map (rowOf n) (x ∷ (l ++ r))) ≡ rule (rowOf n x) (map listedOf (x ∷ l)) ∷ gathered (map (rowOf n) r)
 unfolding ofField gathered
 gathered-first n x [] [] e = refl
 gathered-first n x [] (y ∷ r) e =
     gather-apart (rowOf n x) (rowOf n y) (gathered (map (rowOf n) r))
-    (eqb-swap (getD y 1 0) (getD x 1 0) (uncounted (inField (getD x 1 0) y) (ofField (getD x 1 0) r) e))
+    (eqb-swap (getD y fieldColumn 0) (getD x fieldColumn 0) (uncounted (inField (getD x fieldColumn 0) y) (ofField (getD x fieldColumn 0) r) e))
 gathered-first n x (y ∷ l) r e =
-    let h = counted (inField (getD x 1 0) y) (ofField (getD x 1 0) (l ++ r)) (length l) e in
-    let s = eqb-true (getD y 1 0) (getD x 1 0) (h .0) in
+    let h = counted (inField (getD x fieldColumn 0) y) (ofField (getD x fieldColumn 0) (l ++ r)) (length l) e in
+    let s = eqb-true (getD y fieldColumn 0) (getD x fieldColumn 0) (h .0) in
     ap (gather (rowOf n x)) (gathered-first n y l r (rw s (h .1)))
-    ∙ rw (eq-eqb (getD x 1 0) (getD y 1 0) (sym s))
+    ∙ rw (eq-eqb (getD x fieldColumn 0) (getD y fieldColumn 0) (sym s))
 
 pub rule-at : (t : List ℕ) (at e : ℕ) (n : Text) → rule (rowOf n (drop at t)) (map listedOf (rowsWithin at e t)) ≡ ruleAt t at e
-rule-at t at e n = rw (getD-drop at t 1 0, getD-drop at t 4 0, getD-drop at t 5 0)
+rule-at t at e n = rw (getD-drop at t fieldColumn 0, getD-drop at t usageColumn 0, getD-drop at t repetitionsColumn 0)
 
 above : (a b : ℕ) → a ≤ b → eqb b a ≡ false → a < b
 above a b h e = omega (arith, eqb-false b a e)
 
 -- the same told by positions: e is where the rows of the first one's field end
-module _ (t : List ℕ) (at end e : ℕ) (some : 11 ≤ end - at) (inside : end ≤ length t) (is : e ≡ at + ofField (getD t (at + 1) 0) (rowsWithin at end t) * 11) where
+module _ (t : List ℕ) (at end e : ℕ) (some : rowSize ≤ end - at) (inside : end ≤ length t) (is : e ≡ at + ofField (getD t (at + fieldColumn) 0) (rowsWithin at end t) * rowSize) where
   abbrev field : ℕ
-  field = getD t (at + 1) 0
+  field = getD t (at + fieldColumn) 0
 
-  pub field-bounds : (at + 11 ≤ e) × (e ≤ end)
+  pub field-bounds : (at + rowSize ≤ e) × (e ≤ end)
   field-bounds = (
     omega (arith, is, field-on t at end field some refl),
-    omega (arith, is, field-le field (rowsWithin at end t), rows-length ((end - at) / 11) (drop at t), div-mul-le-self (end - at) 11),
+    omega (arith, is, field-le field (rowsWithin at end t), rows-length ((end - at) / rowSize) (drop at t), div-mul-le-self (end - at) rowSize),
   )
 
   abbrev front : List (List ℕ)
-  front = rowsWithin (at + 11) e t
+  front = rowsWithin (at + rowSize) e t
 
   abbrev rest : List (List ℕ)
   rest = rowsWithin e end t
@@ -130,10 +123,10 @@ module _ (t : List ℕ) (at end e : ℕ) (some : 11 ≤ end - at) (inside : end 
       ∙ sym (front-length t at end e (ofField field (rowsWithin at end t)) is (field-bounds .1))
       ∙ ap length front-is
 
-  stops : ofField (getD (drop at t) 1 0) (front ++ rest) ≡ length front
+  stops : ofField (getD (drop at t) fieldColumn 0) (front ++ rest) ≡ length front
   unfolding ofField
   stops =
-      rw (getD-drop at t 1 0)
+      rw (getD-drop at t fieldColumn 0)
       (counted (inField field (drop at t)) (ofField field (front ++ rest)) (length front) front-counts .1)
 
   pub rules-first : (n : Text)
@@ -153,11 +146,11 @@ module _ (t : List ℕ) (at end e : ℕ) (some : 11 ≤ end - at) (inside : end 
   pub ordered-front : Ordered (rowsWithin at end t) → Ordered (rowsWithin at e t)
   ordered-front o = stretch.ordered-left (rowsWithin at e t) rest (subst Ordered cut o)
 
-  front-field : every (inField (getD (drop at t) 1 0)) (drop at t ∷ front) ≡ true
+  front-field : every (inField (getD (drop at t) fieldColumn 0)) (drop at t ∷ front) ≡ true
   unfolding every
   front-field =
-      and-both (inField (getD (drop at t) 1 0) (drop at t)) (every (inField (getD (drop at t) 1 0)) front)
-      (eq-eqb (getD (drop at t) 1 0) (getD (drop at t) 1 0) refl) (field-front (getD (drop at t) 1 0) front rest stops)
+      and-both (inField (getD (drop at t) fieldColumn 0) (drop at t)) (every (inField (getD (drop at t) fieldColumn 0)) front)
+      (eq-eqb (getD (drop at t) fieldColumn 0) (getD (drop at t) fieldColumn 0) refl) (field-front (getD (drop at t) fieldColumn 0) front rest stops)
 
   first-proper : Ordered (rowsWithin at end t) → Proper (drop at t)
   unfolding every
@@ -165,51 +158,77 @@ module _ (t : List ℕ) (at end e : ℕ) (some : 11 ≤ end - at) (inside : end 
       let p = subst (λ (l : List (List ℕ)). every isProper l ≡ true) rows-are (o .proper) in
       proper-row (drop at t) (both (isProper (drop at t)) (every isProper (front ++ rest)) p .0)
 
+  -- where the next field's rows begin, and what is sure to pass
+  guides-at : guides at (rowsWithin at end t) ≡ true → guides at (drop at t ∷ (front ++ rest)) ≡ true
+  guides-at g = subst (λ (l : List (List ℕ)). guides at l ≡ true) rows-are g
+
+  pub guided-rest : guides at (rowsWithin at end t) ≡ true → guides e (rowsWithin e end t) ≡ true
+  guided-rest g =
+      let n : at + length (rowsWithin at e t) * rowSize ≡ e = ap (λ (i : ℕ). at + i * rowSize) (front-length t at end e (ofField field (rowsWithin at end t)) is (field-bounds .1)) ∙ sym is in
+      subst (λ (i : ℕ). guides i rest ≡ true) n (guides-behind at (rowsWithin at e t) rest (subst (λ (l : List (List ℕ)). guides at l ≡ true) cut g))
+
+  field-sure : guides at (rowsWithin at end t) ≡ true → 1 ≤ getD (drop at t) sureColumn 0 → SureUpTo (getD (drop at t) sureColumn 0) (map leafOf (rowsWithin at e t))
+  field-sure g some =
+      let n : ofField (getD (drop at t) fieldColumn 0) (drop at t ∷ (front ++ rest)) ≡ length (drop at t ∷ front) = rw (getD-drop at t fieldColumn 0) front-counts in
+      rw front-is
+      (sure-leaves (drop at t) front (sure-rows (drop at t) (front ++ rest) (drop at t ∷ front) rest (guides-first at (drop at t) (front ++ rest) (guides-at g) .1) refl n some))
+
   module _ (k : ℕ) where
     of-all : areOf k (rowsWithin at end t) ≡ true → areOf k (drop at t ∷ (front ++ rest)) ≡ true
     of-all a = subst (λ (l : List (List ℕ)). areOf k l ≡ true) rows-are a
 
     pub of-rest : areOf k (rowsWithin at end t) ≡ true → areOf k (rowsWithin e end t) ≡ true
-    of-rest a = every-right (λ (r : List ℕ). eqb (getD r 0 0) k) (rowsWithin at e t) rest (subst (λ (l : List (List ℕ)). areOf k l ≡ true) cut a)
+    of-rest a = every-right (λ (r : List ℕ). eqb (getD r segmentColumn 0) k) (rowsWithin at e t) rest (subst (λ (l : List (List ℕ)). areOf k l ≡ true) cut a)
 
-    segment-is : areOf k (rowsWithin at end t) ≡ true → getD (drop at t) 0 0 ≡ k
+    segment-is : areOf k (rowsWithin at end t) ≡ true → getD (drop at t) segmentColumn 0 ≡ k
     unfolding every
-    segment-is a = eqb-true (getD (drop at t) 0 0) k (both (eqb (getD (drop at t) 0 0) k) (areOf k (front ++ rest)) (of-all a) .0)
+    segment-is a = eqb-true (getD (drop at t) segmentColumn 0) k (both (eqb (getD (drop at t) segmentColumn 0) k) (areOf k (front ++ rest)) (of-all a) .0)
 
     front-of : areOf k (rowsWithin at end t) ≡ true → areOf k (drop at t ∷ front) ≡ true
-    front-of a = every-left (λ (r : List ℕ). eqb (getD r 0 0) k) (drop at t ∷ front) rest (of-all a)
+    front-of a = every-left (λ (r : List ℕ). eqb (getD r segmentColumn 0) k) (drop at t ∷ front) rest (of-all a)
 
-    pub field-is : Ordered (rowsWithin at end t) → areOf k (rowsWithin at end t) ≡ true → IsField t k at e
-    field-is o a =
+    pub field-is : Ordered (rowsWithin at end t) → areOf k (rowsWithin at end t) ≡ true → guides at (rowsWithin at end t) ≡ true → IsField t k at e
+    field-is o a g =
         record {
           some = field-bounds .0;
           inside = omega (arith, field-bounds .1);
           ordered = ordered-front o;
-          one = rw front-is (one-field (drop at t) k (getD (drop at t) 1 0) (segment-is a) refl (drop at t ∷ front) (front-of a) front-field);
+          one = rw front-is (one-field (drop at t) k (getD (drop at t) fieldColumn 0) (segment-is a) refl (drop at t ∷ front) (front-of a) front-field);
           segment = segment-is a;
+          sure = field-sure g;
         }
 
     -- a field behind has a higher number
-    pub field-later : Ordered (rowsWithin at end t) → areOf k (rowsWithin at end t) ≡ true → 11 ≤ end - e → getD t (at + 1) 0 < getD t (e + 1) 0
+    pub field-later : Ordered (rowsWithin at end t) → areOf k (rowsWithin at end t) ≡ true → rowSize ≤ end - e → getD t (at + fieldColumn) 0 < getD t (e + fieldColumn) 0
     unfolding every
     field-later o a more =
         let x = drop at t in
         let y = drop e t in
-        let later = rowsWithin (e + 11) end t in
+        let later = rowsWithin (e + rowSize) end t in
         let next : rest ≡ y ∷ later = rows-next t e end more in
         let all : rowsWithin at end t ≡ x ∷ (front ++ (y ∷ later)) = rows-are ∙ ap (λ (l : List (List ℕ)). x ∷ (front ++ l)) next in
         let p = both (isProper y) (every isProper later) (subst (λ (l : List (List ℕ)). every isProper l ≡ true) next (ordered-rest o .proper)) in
-        let b = both (eqb (getD y 0 0) k) (areOf k later) (subst (λ (l : List (List ℕ)). areOf k l ≡ true) next (of-rest a)) in
+        let b = both (eqb (getD y segmentColumn 0) k) (areOf k later) (subst (λ (l : List (List ℕ)). areOf k l ≡ true) next (of-rest a)) in
         let l = rises-above x y front later (subst (λ (l : List (List ℕ)). rises l ≡ true) all (o .order)) in
-        let s = segment-is a ∙ sym (eqb-true (getD y 0 0) k (b .0)) in
-        let n = field-next (getD x 1 0) front y later (subst (λ (l : List (List ℕ)). ofField (getD x 1 0) (front ++ l) ≡ length front) next stops) in
+        let s = segment-is a ∙ sym (eqb-true (getD y segmentColumn 0) k (b .0)) in
+        let n = field-next (getD x fieldColumn 0) front y later (subst (λ (l : List (List ℕ)). ofField (getD x fieldColumn 0) (front ++ l) ≡ length front) next stops) in
         let h = field-rises x y (first-proper o) (proper-row y (p .0)) l s in
-        rw (← getD-drop at t 1 0, ← getD-drop e t 1 0) (above (getD x 1 0) (getD y 1 0) h n)
+        rw (← getD-drop at t fieldColumn 0, ← getD-drop e t fieldColumn 0) (above (getD x fieldColumn 0) (getD y fieldColumn 0) h n)
+
+-- a row says where the rows of the next field begin
+pub next-begins : (t : List ℕ) (at end : ℕ) → rowSize ≤ end - at → guides at (rowsWithin at end t) ≡ true
+    → getD t (at + nextColumn) 0 ≡ at + ofField (getD t (at + fieldColumn) 0) (rowsWithin at end t) * rowSize
+next-begins t at end more g =
+    let x = drop at t in
+    let rs = rowsWithin (at + rowSize) end t in
+    let n = rows-next t at end more in
+    let h = guides-first at x rs (subst (λ (l : List (List ℕ)). guides at l ≡ true) n g) .0 in
+    rw n (rw (getD-drop at t nextColumn 0, getD-drop at t fieldColumn 0) at h)
 
 -- ONE FIELD: its number, how often it may repeat, and its leaves
 module _ (t : List ℕ) (k at e : ℕ) (is : IsField t k at e) where
   abbrev others : List (List ℕ)
-  others = rowsWithin (at + 11) e t
+  others = rowsWithin (at + rowSize) e t
 
   rows-of : rowsWithin at e t ≡ drop at t ∷ others
   rows-of = rows-next t at e (omega (arith, is .some))
@@ -224,31 +243,31 @@ module _ (t : List ℕ) (k at e : ℕ) (is : IsField t k at e) where
   unfolding every
   proper-of = proper-row (drop at t) (both (isProper (drop at t)) (every isProper others) (ordered-of .proper) .0)
 
-  pub field-low : pick (eqb k 1) 3 1 ≤ getD t (at + 1) 0
-  field-low = rw (is .segment, getD-drop at t 1 0) at (proper-of .field)
+  pub field-low : firstField k ≤ getD t (at + fieldColumn) 0
+  field-low = rw (is .segment, getD-drop at t fieldColumn 0) at (proper-of .field)
 
-  pub field-most : 1 ≤ getD t (at + 5) 0
-  field-most = rw (getD-drop at t 5 0) at (proper-of .repeats)
+  pub field-most : 1 ≤ getD t (at + repetitionsColumn) 0
+  field-most = rw (getD-drop at t repetitionsColumn 0) at (proper-of .repeats)
 
-  pub field-namer : 10 ≤ getD t (at + 6) 0 → pick (eqb k 1) 13 11 ≤ getD t (at + 6) 0
-  field-namer h = rw (is .segment, getD-drop at t 6 0) at (proper-of .named (rw (getD-drop at t 6 0) h))
+  pub field-namer : 10 ≤ getD t (at + typeColumn) 0 → firstNamer k ≤ getD t (at + typeColumn) 0
+  field-namer h = rw (is .segment, getD-drop at t typeColumn 0) at (proper-of .named (rw (getD-drop at t typeColumn 0) h))
 
-  pub leaves-plain : getD t (at + 6) 0 < 10 → (names : ℕ → Text)
+  pub leaves-plain : getD t (at + typeColumn) 0 < 10 → (names : ℕ → Text)
       → (leavesOf (tableOf t) names (ruleAt t at e) ≡ map leafOf (rowsWithin at e t)) × Ascends 1 (map leafOf (rowsWithin at e t))
   leaves-plain h names =
       let x = drop at t in
-      let g : getD x 6 0 < 10 = rw (getD-drop at t 6 0) h in
+      let g : getD x typeColumn 0 < 10 = rw (getD-drop at t typeColumn 0) h in
       let p = plain-rows x x others one-of (ordered-of .lone) g in (
         plain-leaves (tableOf t) names (rowsWithin at e t) (subst (λ (l : List (List ℕ)). every isPlain l ≡ true) (sym rows-of) p),
         subst (λ (l : List (List ℕ)). Ascends 1 (map leafOf l)) (sym rows-of) (ascending x x 1 others one-of (ordered-of .order) (ordered-of .proper) p (proper-of .leaf g .0)),
       )
 
-  pub leaves-named : 10 ≤ getD t (at + 6) 0 → (names : ℕ → Text)
-      → leavesOf (tableOf t) names (ruleAt t at e) ≡ leavesNamed t (names (getD t (at + 6) 0 - 10))
+  pub leaves-named : 10 ≤ getD t (at + typeColumn) 0 → (names : ℕ → Text)
+      → leavesOf (tableOf t) names (ruleAt t at e) ≡ leavesNamed t (names (getD t (at + typeColumn) 0 - 10))
   leaves-named h names =
       let x = drop at t in
-      let g : 10 ≤ getD x 6 0 = rw (getD-drop at t 6 0) h in
+      let g : 10 ≤ getD x typeColumn 0 = rw (getD-drop at t typeColumn 0) h in
       let only : rowsWithin at e t ≡ x ∷ [] = rows-of ∙ ap (λ (l : List (List ℕ)). x ∷ l) (named-alone x x others one-of (ordered-of .lone) g) in
       ap (λ (l : List (List ℕ)). flatMap (leavesIn (tableOf t) names) (map listedOf l)) only
       ∙ named-leaf (tableOf t) names x g
-      ∙ ap (λ (f : ℕ). leavesNamed t (names (f - 10))) (getD-drop at t 6 0)
+      ∙ ap (λ (f : ℕ). leavesNamed t (names (f - 10))) (getD-drop at t typeColumn 0)

@@ -4,23 +4,25 @@ use Prim.Native.Nat.{ℕ, suc, _+_, _-_, _≤_, _<_}
 use native.Mathlib.Omega.{arith}
 use mathlib.Core.Bool.{Bool, true, false, not, _&&_, _||_}
 use mathlib.Core.List.{List, [], _∷_, _++_, map, append-nil}
-use lib.ListN.{length, drop}
+use lib.ListN.{length, getD, drop}
+use lib.Seq.{getD-drop}
 use lib.Dec.{eqb}
 use borrow.Author.Tests as tests
-use borrow.Author.Tests.{ne-eqb}
+use borrow.Author.Tests.{ne-eqb, eqb-true}
 use Rattle.text.specs.Bytes.{Text, pick, every, some, keep, same}
 use Rattle.text.proofs.Tests.{both, same-true}
 use Rattle.text.proofs.Lists.{or-assoc}
 use Rattle.profile.specs.Table.{Leaf, Row, Table, typeLeaves, isListed, gathered, rulesOf}
 use Rattle.profile.specs.Lists.{value-types}
-use Rattle.profile.specs.Numbers.{segmentNames, leafOf, rowOf, rowsWithin, begin, under, leavesUnder, numberIn, segmentNumber, typeNumber, typesFrom, segmentsFrom, tableOf, Tells}
-use Rattle.profile.specs.Order.{Sound}
-use Rattle.codes.specs.Inner.{Ascends, Under, Lists, leavesNamed}
+use Rattle.profile.specs.Numbers.{segmentNames, leafOf, rowOf, rowsWithin, begin, under, leavesUnder, numberIn, segmentNumber, typeNumber, typesFrom, segmentsFrom, tableOf, Tells, rowSize, fieldColumn, sureColumn, firstType}
+use Rattle.profile.specs.Order.{ofField, guides, Sound}
+use Rattle.codes.specs.Inner.{Ascends, SureUpTo, Under, Lists, leavesNamed}
 use Rattle.codes.specs.declared.rows.Rows.{Rows}
 use Rattle.codes.proofs.Numbered.{type-number-range}
 use Rattle.codes.proofs.RowSteps.{rows-next}
 use Rattle.codes.proofs.Stretch.{under-whole}
-use Rattle.codes.proofs.Ascending.{type-ascends}
+use Rattle.codes.proofs.Ascending.{inField, type-field, type-ascends}
+use Rattle.codes.proofs.Guided.{guides-first, sure-rows, sure-leaves}
 
 -- numbers that tell a table tell all of it
 pub tells-same : (t : List ℕ) (T : Table) → Tells t T → tableOf t ≡ T
@@ -49,14 +51,37 @@ pub named-leaves : (t : List ℕ) (x : Text) → leavesNamed t x ≡ map leafOf 
 unfolding tableOf
 named-leaves t x = types-are t 16 8 value-types x
 
+-- all rows of a type are of one field: what the first says is sure to pass holds of all
+all-field : (f : ℕ) (l : List (List ℕ)) → every (inField f) l ≡ true → ofField f l ≡ length l
+unfolding ofField every
+all-field f [] e = refl
+all-field f (x ∷ l) e =
+    let h = both (inField f x) (every (inField f) l) e in
+    rw (h .0, all-field f l (h .1))
+
+type-sure : (t : List ℕ) (k : ℕ) (r : Rows) → firstType ≤ k → Under t k r → 1 ≤ getD t (r .start + sureColumn) 0
+    → SureUpTo (getD t (r .start + sureColumn) 0) (map leafOf (under k t))
+unfolding every
+type-sure t k r h u some =
+    let x = drop (r .start) t in
+    let rs = rowsWithin (r .start + rowSize) (r .end) t in
+    let is : under k t ≡ x ∷ rs = sym (u .rows) ∙ rows-next t (r .start) (r .end) (omega (arith, u .some)) in
+    let one : every (inField 1) (x ∷ rs) ≡ true = subst (λ (l : List (List ℕ)). every (inField 1) l ≡ true) is (type-field k h (under k t) (u .numbered) (u .ordered .proper) .0) in
+    let first : getD x fieldColumn 0 ≡ 1 = eqb-true (getD x fieldColumn 0) 1 (both (inField 1 x) (every (inField 1) rs) one .0) in
+    let count : ofField (getD x fieldColumn 0) (x ∷ rs) ≡ length (x ∷ rs) = rw first (all-field 1 (x ∷ rs) one) in
+    let guided = guides-first (r .start) x rs (subst (λ (l : List (List ℕ)). guides (r .start) l ≡ true) is (u .guided)) .1 in
+    let n : getD x sureColumn 0 ≡ getD t (r .start + sureColumn) 0 = getD-drop (r .start) t sureColumn 0 in
+    rw (is, ← n) (sure-leaves x rs (sure-rows x rs (x ∷ rs) [] guided (sym (append-nil (x ∷ rs))) count (rw n some)))
+
 pub type-lists : (t : List ℕ) (x : Text) (k : ℕ) (r : Rows) → k ≡ typeNumber x → Under t k r → Lists t r (leavesNamed t x)
 type-lists t x k r e u =
     let named : map leafOf (under k t) ≡ leavesNamed t x = ap (λ (j : ℕ). leavesUnder j t) e ∙ sym (named-leaves t x) in
     record {
-      order = u .stand .order;
-      inside = u .stand .inside;
-      leaves = ap (λ (l : List (List ℕ)). map leafOf l) (u .stand .rows) ∙ named;
+      some = u .some;
+      inside = u .inside;
+      leaves = ap (λ (l : List (List ℕ)). map leafOf l) (u .rows) ∙ named;
       ascends = subst (Ascends 1) named (type-ascends k (omega (arith, e, type-number-range x)) (under k t) (u .ordered) (u .numbered));
+      sure = λ some. subst (SureUpTo (getD t (r .start + sureColumn) 0)) named (type-sure t k r (omega (arith, e, type-number-range x)) u some);
     }
 
 -- the rows of a segment among all
@@ -145,19 +170,19 @@ listed-step : (b c : Bool) (k n : ℕ) → 1 ≤ k → c ≡ not (eqb n 0) → b
 listed-step true c k n h e = rw (ne-eqb k 0 (λ z. omega arith))
 listed-step false c k n h e = e
 
-segments-listed : (t : List ℕ) (n : Text) (k : ℕ) (ns : List Text) → 1 ≤ k → ((i : ℕ) → k ≤ i → i < k + length ns → 11 ≤ begin t (suc i) - begin t i)
+segments-listed : (t : List ℕ) (n : Text) (k : ℕ) (ns : List Text) → 1 ≤ k → ((i : ℕ) → k ≤ i → i < k + length ns → rowSize ≤ begin t (suc i) - begin t i)
     → some (named n) (segmentsFrom k ns t) ≡ not (eqb (numberIn 0 k ns n) 0)
 unfolding segmentsFrom numberIn some
 segments-listed t n k [] h w = refl
 segments-listed t n k (m ∷ ns) h w =
-    let rest = rowsWithin (begin t k + 11) (begin t (suc k)) t in
+    let rest = rowsWithin (begin t k + rowSize) (begin t (suc k)) t in
     some-append (named n) (map (rowOf m) (under k t)) (segmentsFrom (suc k) ns t)
     ∙ rw (rows-next t (begin t k) (begin t (suc k)) (w k (omega arith) (omega arith)), some-rows n m (same m n) refl (drop (begin t k) t) rest)
     (listed-step (same m n) (some (named n) (segmentsFrom (suc k) ns t)) k (numberIn 0 (suc k) ns n) h
     (segments-listed t n (suc k) ns (omega arith) (λ i a b. w i (omega arith) (omega arith))))
 
 -- under each number of a segment there is a row
-row-under : (t : List ℕ) → Sound t → (k : ℕ) → 1 ≤ k → k < 16 → 11 ≤ begin t (suc k) - begin t k
+row-under : (t : List ℕ) → Sound t → (k : ℕ) → 1 ≤ k → k < 16 → rowSize ≤ begin t (suc k) - begin t k
 row-under t s k l h =
     let a = under-whole t s k l (omega arith) in
     let b = under-whole t s (suc k) (omega arith) h in

@@ -11,8 +11,8 @@ use borrow.Author.Tests.{eqb-true, ltb-true, leb-true}
 use Rattle.text.specs.Bytes.{every}
 use Rattle.text.proofs.Tests.{both}
 use Rattle.text.proofs.Lists.{and-both}
-use Rattle.profile.specs.Numbers.{rowsFrom, rowsWithin, begin, under}
-use Rattle.profile.specs.Order.{areOf, placeOf, rising, rises, isNamed, sameField, alone, behind, isWhole, Ordered, Sound}
+use Rattle.profile.specs.Numbers.{rowsFrom, rowsWithin, begin, under, rowSize, noType}
+use Rattle.profile.specs.Order.{areOf, rankOf, rising, rises, isNamed, sameField, alone, behind, isWhole, Ordered, Sound, guides}
 use Rattle.codes.specs.Inner.{Under}
 use Rattle.codes.proofs.RowSteps.{rows-cut, rows-sooner}
 
@@ -38,12 +38,12 @@ unfolding rising
 rises-left [] r e = refl
 rises-left (x ∷ []) r e = refl
 rises-left (x ∷ y ∷ l) r e =
-    let h = both (ltb (placeOf x) (placeOf y)) (rises (y ∷ (l ++ r))) e in
-    and-both (ltb (placeOf x) (placeOf y)) (rises (y ∷ l)) (h .0) (rises-left (y ∷ l) r (h .1))
+    let h = both (ltb (rankOf x) (rankOf y)) (rises (y ∷ (l ++ r))) e in
+    and-both (ltb (rankOf x) (rankOf y)) (rises (y ∷ l)) (h .0) (rises-left (y ∷ l) r (h .1))
 
 rises-right : (l r : List (List ℕ)) → rises (l ++ r) ≡ true → rises r ≡ true
 rises-right [] r e = e
-rises-right (x ∷ l) r e = rises-right l r (rising-rest (placeOf x) (map placeOf (l ++ r)) e)
+rises-right (x ∷ l) r e = rises-right l r (rising-rest (rankOf x) (map rankOf (l ++ r)) e)
 
 -- whether two neighbours may stand side by side
 abbrev pub apart : List ℕ → List ℕ → Bool
@@ -101,45 +101,48 @@ every-up f (suc n) a (suc i) h e =
 -- what the rule says of the rows under a number
 pub record Whole (t : List ℕ) (k : ℕ) : Type 0 where
   pub count : ℕ
-  pub starts : begin t k ≡ behind + count * 11
-  pub some : begin t k < begin t (suc k)
+  pub starts : begin t k ≡ behind + count * rowSize
+  pub some : begin t k + rowSize ≤ begin t (suc k)
   pub inside : begin t (suc k) ≤ length t
   pub numbered : areOf k (under k t) ≡ true
+  pub guided : guides (begin t k) (under k t) ≡ true
 
 whole : (t : List ℕ) (k : ℕ) → isWhole k t ≡ true → Whole t k
 whole t k e =
-    let a = eqb (begin t k) (behind + (begin t k - behind) / 11 * 11) in
-    let b = ltb (begin t k) (begin t (suc k)) in
+    let a = eqb (begin t k) (behind + (begin t k - behind) / rowSize * rowSize) in
+    let b = leb (begin t k + rowSize) (begin t (suc k)) in
     let c = leb (begin t (suc k)) (length t) in
     let d = areOf k (under k t) in
-    let h = both (a && b && c) d e in
+    let g = both (a && b && c && d) (guides (begin t k) (under k t)) e in
+    let h = both (a && b && c) d (g .0) in
     let i = both (a && b) c (h .0) in
     let j = both a b (i .0) in
     record {
-      count = (begin t k - behind) / 11;
-      starts = eqb-true (begin t k) (behind + (begin t k - behind) / 11 * 11) (j .0);
-      some = ltb-true (begin t k) (begin t (suc k)) (j .1);
+      count = (begin t k - behind) / rowSize;
+      starts = eqb-true (begin t k) (behind + (begin t k - behind) / rowSize * rowSize) (j .0);
+      some = leb-true (begin t k + rowSize) (begin t (suc k)) (j .1);
       inside = leb-true (begin t (suc k)) (length t) (i .1);
       numbered = h .1;
+      guided = g .1;
     }
 
-module _ (t : List ℕ) (s : Sound t) (k : ℕ) (low : 1 ≤ k) (high : k ≤ 16) where
+module _ (t : List ℕ) (s : Sound t) (k : ℕ) (low : 1 ≤ k) (high : k ≤ noType) where
   pub under-whole : Whole t k
   under-whole =
       let e : 1 + (k - 1) ≡ k = omega arith in
-      whole t k (rw e at (every-up (λ (j : ℕ). isWhole j t) 16 1 (k - 1) (omega arith) (s .index)))
+      whole t k (rw e at (every-up (λ (j : ℕ). isWhole j t) noType 1 (k - 1) (omega arith) (s .index)))
 
   pub under-ordered : Ordered (under k t)
   under-ordered =
       let w = under-whole in
       let b = begin t k in
       let e = begin t (suc k) in
-      let n = (length t - b) / 11 - (e - b) / 11 in
+      let n = (length t - b) / rowSize - (e - b) / rowSize in
       let later : Ordered (rowsWithin b (length t) t) =
       ordered-right (rowsWithin behind b t) (rowsWithin b (length t) t)
       (subst Ordered (rows-cut t behind (length t) b (w .count) (w .starts) (omega arith)) (s .rows))
       in
-      ordered-left (under k t) (rowsFrom n (drop ((e - b) / 11 * 11) (drop b t)))
+      ordered-left (under k t) (rowsFrom n (drop ((e - b) / rowSize * rowSize) (drop b t)))
       (subst Ordered (rows-sooner t b e (length t) (w .inside)) later)
 
   pub under-inside : k + 1 < length t
@@ -152,7 +155,10 @@ module _ (t : List ℕ) (s : Sound t) (k : ℕ) (low : 1 ≤ k) (high : k ≤ 16
       let w = under-whole in
       rw (add-one k)
       record {
-        stand = record { order = omega (arith, w .some); inside = w .inside; rows = refl };
+        some = w .some;
+        inside = w .inside;
+        rows = refl;
         ordered = under-ordered;
         numbered = w .numbered;
+        guided = w .guided;
       }

@@ -7,6 +7,6 @@ pub use codes::is_in_list;
 pub use codes::is_of_type;
 pub use codes::segment_number;
 pub use rows::Rows;
-pub use rows::field_end;
+pub use rows::next_field;
 pub use rows::rows_under;
 pub use rows::type_rows;

@@ -2,6 +2,7 @@
 ghost use Prim.Native.Nat.{_≤_};
 ghost use Rattle.codes.specs.Inner.{Lists, leavesAt};
 ghost use Rattle.fields.specs.Judged.{ReadsField};
+use checks::reasons;
 use codes::Rows;
 use leaves::read_repetition;
 use parts::piece_end;
@@ -19,14 +20,14 @@ pub struct ReadField {
 }
 
 // Reads a field's repetitions, at most as many as it may have; once a check is broken, those left are only counted.
-pub fn read_field(s: &[u8], q: Marks, t: &[u16], rows: Rows, most: u64) -> ReadField
-    requires { ⌜ (1 ≤ most) × Lists (now t) rows (leavesAt (now t) rows) ⌝ }
-    ensures { λ r. ⌜ ReadsField q (leavesAt (now (t .entry)) rows) most (now (s .entry)) r ⌝ }
+pub fn read_field(s: &[u8], q: Marks, table: &[u16], rows: Rows, most: u64) -> ReadField
+    requires { ⌜ (1 ≤ most) × Lists (now table) rows (leavesAt (now table) rows) ⌝ }
+    ensures { λ r. ⌜ ReadsField q (leavesAt (now (table .entry)) rows) most (now (s .entry)) r ⌝ }
 {
     let mut found = ReadField {
         surplus: false,
         filled: false,
-        reason: 0,
+        reason: reasons::NOTHING_BROKEN,
         repetition: 0,
         component: 0,
         subcomponent: 0,
@@ -38,8 +39,8 @@ pub fn read_field(s: &[u8], q: Marks, t: &[u16], rows: Rows, most: u64) -> ReadF
     let mut start = 0;
     while number <= most {
         let end = piece_end(s, start, q.repetition);
-        if found.reason == 0 {
-            let r = read_repetition(&s[start..end], q, t, rows);
+        if found.reason == reasons::NOTHING_BROKEN {
+            let r = read_repetition(&s[start..end], q, table, rows);
             if r.filled {
                 found.filled = found.filled | (number == 1);
                 found.reason = r.reason;

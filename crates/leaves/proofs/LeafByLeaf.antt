@@ -8,6 +8,7 @@ use lib.ListN.{length, getD, drop}
 use lib.Seq.{getD-drop}
 use lib.Dec.{ltb, leb}
 use borrow.Author.Tests.{lt-ltb, le-ltb, ltb-true, leb-true}
+use Rattle.profile.specs.Numbers.{componentColumn, reasonColumn, rowSize, starColumn, subcomponentColumn}
 use Rattle.text.specs.Bytes.{Text, empty, some, within}
 use Rattle.text.specs.declared.marks.Marks.{Marks}
 use Rattle.text.proofs.Tests.{both}
@@ -30,7 +31,7 @@ use Rattle.checks.specs.Place.{Place, place, leafOf}
 use Rattle.checks.proofs.Filled.{none-filled, no-leaf}
 use Rattle.checks.specs.View.{entriesOf, isFilled}
 use Rattle.checks.specs.Fault.{Verdict, accepted, fault, leafChecks, repetitionChecks, firstBroken}
-use Rattle.leaves.specs.Judged.{told, ReadsRepetition}
+use Rattle.leaves.specs.Judged.{told, ReadsMissing, ReadsRepetition}
 use Rattle.codes.proofs.RowSteps.{rows-next, rows-none}
 use Rattle.parts.proofs.Descent.{part-nil}
 use Rattle.leaves.proofs.LeafRule.{rule-missing, rule-empty}
@@ -174,7 +175,7 @@ module _ {s : Text} {q : Marks} {t : List ℕ} where
       → Reading s q t (r .start) (r .end) nothing c (r .start)
   reading-first {r} h p =
       record {
-        order = h .order;
+        order = omega (arith, h .some);
         inside = h .inside;
         piece = p .0;
         ascends = rw (p .1) (h .ascends);
@@ -182,16 +183,16 @@ module _ {s : Text} {q : Marks} {t : List ℕ} where
       }
 
   module _ {first end : ℕ} {found : ReadRepetition} {c : Cursor} {at : ℕ} (w : Reading s q t first end found c at) where
-    pub reading-none : end - at < 11 → ReadsRepetition q (leaves t first end) s found
+    pub reading-none : end - at < rowSize → ReadsRepetition q (leaves t first end) s found
     reading-none none = left-none q s (leaves t first end) found (rw (rows-none t at end none) at (w .left))
 
     -- a leaf's row is ahead
-    module _ (more : 11 ≤ end - at) where
+    module _ (more : rowSize ≤ end - at) where
       abbrev l : Leaf
       l = row.leafOf (drop at t)
 
       abbrev rest : List Leaf
-      rest = leaves t (at + 11) end
+      rest = leaves t (at + rowSize) end
 
       rise : (c .number ≤ l .component) × ((1 ≤ l .reason) × (l .reason ≤ 12)) × Ascends (l .component) rest
       rise = rises (c .number) l rest (rw (rows-next t at end more) at (w .ascends))
@@ -199,59 +200,58 @@ module _ {s : Text} {q : Marks} {t : List ℕ} where
       left : Left q s (leaves t first end) (l ∷ rest) found
       left = rw (rows-next t at end more) at (w .left)
 
-      pub reading-number : c .number ≤ getD t (at + 2) 0
-      reading-number = rw (← getD-drop at t 2 0) (rise .0)
+      pub reading-number : c .number ≤ getD t (at + componentColumn) 0
+      reading-number = rw (← getD-drop at t componentColumn 0) (rise .0)
 
-      pub reading-reason : (1 ≤ getD t (at + 10) 0) × (getD t (at + 10) 0 ≤ 12)
-      reading-reason = rw (← getD-drop at t 10 0) (rise .1)
+      pub reading-reason : (1 ≤ getD t (at + reasonColumn) 0) × (getD t (at + reasonColumn) 0 ≤ 12)
+      reading-reason = rw (← getD-drop at t reasonColumn 0) (rise .1)
 
       -- its component is behind the last
-      module _ (missing : ltb (c .number) (getD t (at + 2) 0) && leb (length s) (c .end) ≡ true) where
+      module _ (missing : ltb (c .number) (getD t (at + componentColumn) 0) && leb (length s) (c .end) ≡ true) where
         none-left : entriesOf q false (leaves t at end) s ≡ entriesOf q false (leaves t at end) []
         none-left =
-            let b = both (ltb (c .number) (getD t (at + 2) 0)) (leb (length s) (c .end)) missing in
+            let b = both (ltb (c .number) (getD t (at + componentColumn) 0)) (leb (length s) (c .end)) missing in
             let last = leb-true (length s) (c .end) (b .1) in
-            let less : c .number < l .component = rw (getD-drop at t 2 0) (ltb-true (c .number) (getD t (at + 2) 0) (b .0)) in
+            let less : c .number < l .component = rw (getD-drop at t componentColumn 0) (ltb-true (c .number) (getD t (at + componentColumn) 0) (b .0)) in
             rw (rows-next t at end more, leaf-missing q s c (w .piece) last (l .component) (l .subcomponent) less, entries-missing q s c (w .piece) last (l .component) rest (rise .2) less)
 
         pub reading-broken : (found .reason ≡ 0 → ⊥) → ReadsRepetition q (leaves t first end) s found
         reading-broken e = left-broken q s (leaves t first end) (leaves t at end) found (w .left) none-left e
 
-        pub reading-missing : found .reason ≡ 0 → (r : ReadRepetition) → (r .filled ≡ found .filled) × ((p : Marks) (n : Text) (o f k : ℕ) → told (place n o f k (r .component) (r .subcomponent)) (r .reason) ≡ broken p (leaves t at end) [] n o f k)
-            → ReadsRepetition q (leaves t first end) s r
-        reading-missing e r g = left-missing q s (leaves t first end) (leaves t at end) found (w .left) none-left e r (g .0) (g .1 q)
+        pub reading-missing : found .reason ≡ 0 → (r : ReadRepetition) → ReadsMissing (leaves t at end) (found .filled) r → ReadsRepetition q (leaves t first end) s r
+        reading-missing e r g = left-missing q s (leaves t first end) (leaves t at end) found (w .left) none-left e r (g .handed-on) (g .first q)
 
       -- its component and its text are found
-      module _ {d : Cursor} (moved : IsPiece (q .component) s d × (d .number ≡ getD t (at + 2) 0)) {p : Span} (found-at : p ≡ span (start (q .subcomponent) (getD t (at + 3) 0) (within (d .start) (d .end) s)) (piece (getD t (at + 3) 0) (split (q .subcomponent) (within (d .start) (d .end) s)))) where
+      module _ {d : Cursor} (moved : IsPiece (q .component) s d × (d .number ≡ getD t (at + componentColumn) 0)) {p : Span} (found-at : p ≡ span (start (q .subcomponent) (getD t (at + subcomponentColumn) 0) (within (d .start) (d .end) s)) (piece (getD t (at + subcomponentColumn) 0) (split (q .subcomponent) (within (d .start) (d .end) s)))) where
         abbrev text : Text
         text = leafOf q false s (l .component) (l .subcomponent)
 
-        same-leaf : leafOf q false s (d .number) (getD t (at + 3) 0) ≡ text
-        same-leaf = rw (moved .1, getD-drop at t 2 0, getD-drop at t 3 0)
+        same-leaf : leafOf q false s (d .number) (getD t (at + subcomponentColumn) 0) ≡ text
+        same-leaf = rw (moved .1, getD-drop at t componentColumn 0, getD-drop at t subcomponentColumn 0)
 
         same-text : within (p .start) (p .end) (within (d .start) (d .end) s) ≡ text
-        same-text = leaf-text q s d (moved .0) (getD t (at + 3) 0) p found-at ∙ same-leaf
+        same-text = leaf-text q s d (moved .0) (getD t (at + subcomponentColumn) 0) p found-at ∙ same-leaf
 
         fills : ltb (p .start) (p .end) ≡ not (empty text)
-        fills = rw (← same-leaf) (leaf-some q s d (moved .0) (getD t (at + 3) 0) p found-at)
+        fills = rw (← same-leaf) (leaf-some q s d (moved .0) (getD t (at + subcomponentColumn) 0) p found-at)
 
         ascends-on : Ascends (d .number) rest
-        ascends-on = rw (moved .1, ← getD-drop at t 2 0) (rise .2)
+        ascends-on = rw (moved .1, ← getD-drop at t componentColumn 0) (rise .2)
 
         pub reading-judged : found .reason ≡ 0 → {r : ℕ}
             → ((x : Place) → told x r ≡ firstBroken (leafChecks q x l (within (p .start) (p .end) (within (d .start) (d .end) s))))
-            → Reading s q t first end (record { filled = found .filled || ltb (p .start) (p .end); reason = r; component = getD t (at + 2) 0; subcomponent = getD t (at + 3) 0 }) d (at + 11)
+            → Reading s q t first end (record { filled = found .filled || ltb (p .start) (p .end); reason = r; component = getD t (at + componentColumn) 0; subcomponent = getD t (at + subcomponentColumn) 0 }) d (at + rowSize)
         reading-judged e {r} g =
             record {
               order = omega arith;
               inside = w .inside;
               piece = moved .0;
               ascends = ascends-on;
-              left = rw (← getD-drop at t 2 0, ← getD-drop at t 3 0) (left-judged q s (leaves t first end) rest l found left (ltb (p .start) (p .end)) fills e r (λ x. g x ∙ ap (λ (y : Text). firstBroken (leafChecks q x l y)) same-text));
+              left = rw (← getD-drop at t componentColumn 0, ← getD-drop at t subcomponentColumn 0) (left-judged q s (leaves t first end) rest l found left (ltb (p .start) (p .end)) fills e r (λ x. g x ∙ ap (λ (y : Text). firstBroken (leafChecks q x l y)) same-text));
             }
 
         pub reading-passed : (found .reason ≡ 0 → ⊥)
-            → Reading s q t first end (record { filled = found .filled || ltb (p .start) (p .end); reason = found .reason; component = found .component; subcomponent = found .subcomponent }) d (at + 11)
+            → Reading s q t first end (record { filled = found .filled || ltb (p .start) (p .end); reason = found .reason; component = found .component; subcomponent = found .subcomponent }) d (at + rowSize)
         reading-passed e =
             record {
               order = omega arith;
@@ -272,24 +272,24 @@ module _ {t : List ℕ} {first end : ℕ} where
   search-first h = record { order = h .0; inside = h .1; left = λ q. left-all q [] (leaves t first end) }
 
   module _ {at : ℕ} (w : Search t first end at) where
-    pub search-none : end - at < 11 → (q : Marks) (n : Text) (o f k : ℕ) → accepted ≡ broken q (leaves t first end) [] n o f k
+    pub search-none : end - at < rowSize → (q : Marks) (n : Text) (o f k : ℕ) → accepted ≡ broken q (leaves t first end) [] n o f k
     search-none none q = left-none q [] (leaves t first end) nothing (rw (rows-none t at end none) at (w .left q)) .first
 
-    module _ (more : 11 ≤ end - at) where
+    module _ (more : rowSize ≤ end - at) where
       judged : (q : Marks) (r : ℕ) → ((p : Place) → told p r ≡ firstBroken (leafChecks q p (row.leafOf (drop at t)) []))
-          → Left q [] (leaves t first end) (leaves t (at + 11) end) (record { filled = false; reason = r; component = getD (drop at t) 2 0; subcomponent = getD (drop at t) 3 0 })
+          → Left q [] (leaves t first end) (leaves t (at + rowSize) end) (record { filled = false; reason = r; component = getD (drop at t) componentColumn 0; subcomponent = getD (drop at t) subcomponentColumn 0 })
       judged q r g =
           let l = row.leafOf (drop at t) in
           let e = no-leaf q (l .component) (l .subcomponent) in
-          left-judged q [] (leaves t first end) (leaves t (at + 11) end) l nothing (rw (rows-next t at end more) at (w .left q)) false (rw e) refl r (rw e g)
+          left-judged q [] (leaves t first end) (leaves t (at + rowSize) end) l nothing (rw (rows-next t at end more) at (w .left q)) false (rw e) refl r (rw e g)
 
-      pub search-found : getD t (at + 7) 0 ≡ 1 → (q : Marks) (n : Text) (o f k : ℕ)
-          → fault (place n o f k (getD t (at + 2) 0) (getD t (at + 3) 0)) 3 ≡ broken q (leaves t first end) [] n o f k
+      pub search-found : getD t (at + starColumn) 0 ≡ 1 → (q : Marks) (n : Text) (o f k : ℕ)
+          → fault (place n o f k (getD t (at + componentColumn) 0) (getD t (at + subcomponentColumn) 0)) 3 ≡ broken q (leaves t first end) [] n o f k
       search-found e q =
-          rw (← getD-drop at t 2 0, ← getD-drop at t 3 0)
-          (left-broken q [] (leaves t first end) (leaves t (at + 11) end) _ (judged q 3 (rule-missing q t at [] refl e)) refl (λ z. omega (arith, z)) .first)
+          rw (← getD-drop at t componentColumn 0, ← getD-drop at t subcomponentColumn 0)
+          (left-broken q [] (leaves t first end) (leaves t (at + rowSize) end) _ (judged q 3 (rule-missing q t at [] refl e)) refl (λ z. omega (arith, z)) .first)
 
-      pub search-on : (getD t (at + 7) 0 ≡ 1 → ⊥) → Search t first end (at + 11)
+      pub search-on : (getD t (at + starColumn) 0 ≡ 1 → ⊥) → Search t first end (at + rowSize)
       search-on e =
           record {
             order = omega arith;

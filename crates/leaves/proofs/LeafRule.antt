@@ -12,7 +12,7 @@ use Rattle.escape.specs.Escape.{endsOutside, badEscape}
 use Rattle.text.specs.declared.marks.Marks.{Marks}
 use Rattle.text.proofs.Tests.{empty-none, empty-some}
 use Rattle.profile.specs.Table.{ofType, among}
-use Rattle.profile.specs.Numbers.{leafOf, simpleOf, codesOf}
+use Rattle.profile.specs.Numbers.{leafOf, simpleOf, codesOf, limitColumn, listColumn, reasonColumn, starColumn, typeColumn}
 use Rattle.codes.proofs.Numbered.{other-type}
 use Rattle.checks.specs.Place.{Place}
 use Rattle.checks.specs.Fault.{Verdict, accepted, fault, check, leafChecks, firstBroken}
@@ -32,50 +32,50 @@ module _ (q : Marks) (t : List ℕ) (at : ℕ) (s : Text) where
   first p = firstBroken (leafChecks q p (leafOf (drop at t)) s)
 
   module _ (none : length s ≡ 0) where
-    pub rule-missing : number 7 ≡ 1 → (p : Place) → fault p 3 ≡ first p
+    pub rule-missing : number starColumn ≡ 1 → (p : Place) → fault p 3 ≡ first p
     unfolding firstBroken
-    rule-missing e p = rw (empty-none s none, getD-drop at t 7 0, eq-eqb (number 7) 1 e)
+    rule-missing e p = rw (empty-none s none, getD-drop at t starColumn 0, eq-eqb (number starColumn) 1 e)
 
-    pub rule-empty : (number 7 ≡ 1 → ⊥) → (p : Place) → accepted ≡ first p
+    pub rule-empty : (number starColumn ≡ 1 → ⊥) → (p : Place) → accepted ≡ first p
     unfolding firstBroken
     rule-empty e p =
-        rw (empty-none s none, no-escape q s none, getD-drop at t 7 0, ne-eqb (number 7) 1 e, le-ltb (getD (drop at t) 8 0) (length s) (omega arith))
+        rw (empty-none s none, no-escape q s none, getD-drop at t starColumn 0, ne-eqb (number starColumn) 1 e, le-ltb (getD (drop at t) limitColumn 0) (length s) (omega arith))
 
   module _ (some : length s ≡ 0 → ⊥) where
     filled : empty s ≡ false
     filled = empty-some s some
 
-    pub rule-long : number 8 < length s → (p : Place) → fault p 5 ≡ first p
+    pub rule-long : number limitColumn < length s → (p : Place) → fault p 5 ≡ first p
     unfolding firstBroken
-    rule-long l p = rw (filled, getD-drop at t 8 0, lt-ltb (number 8) (length s) l)
+    rule-long l p = rw (filled, getD-drop at t limitColumn 0, lt-ltb (number limitColumn) (length s) l)
 
-    module _ (fits : length s ≤ number 8) where
-      short : (p : Place) → first p ≡ firstBroken (check p 6 (badEscape q s) ∷ check p 7 (not (ofType (simpleOf (number 6)) s)) ∷ check p (number 10) (not (among (codesOf (number 9)) s)) ∷ [])
+    module _ (fits : length s ≤ number limitColumn) where
+      short : (p : Place) → first p ≡ firstBroken (check p 6 (badEscape q s) ∷ check p 7 (not (ofType (simpleOf (number typeColumn)) s)) ∷ check p (number reasonColumn) (not (among (codesOf (number listColumn)) s)) ∷ [])
       unfolding firstBroken
-      short p = rw (filled, getD-drop at t 8 0, le-ltb (number 8) (length s) fits, getD-drop at t 6 0, getD-drop at t 9 0, getD-drop at t 10 0)
+      short p = rw (filled, getD-drop at t limitColumn 0, le-ltb (number limitColumn) (length s) fits, getD-drop at t typeColumn 0, getD-drop at t listColumn 0, getD-drop at t reasonColumn 0)
 
       module _ (bad : Bool) (escaped : bad ≡ badEscape q s) where
         pub rule-escape : bad ≡ true → (p : Place) → fault p 6 ≡ first p
         unfolding firstBroken
         rule-escape e p = rw (short p, ← escaped, e)
 
-        module _ (good : bad ≡ false) (typed : Bool) (is-typed : typed ≡ ofType (simpleOf (number 6)) s) where
+        module _ (good : bad ≡ false) (typed : Bool) (is-typed : typed ≡ ofType (simpleOf (number typeColumn)) s) where
           pub rule-type : not typed ≡ true → (p : Place) → fault p 7 ≡ first p
           unfolding firstBroken
           rule-type e p = rw (short p, ← escaped, good, ← is-typed, e)
 
-          module _ (of-type : not typed ≡ false) (listed : Bool) (is-listed : listed ≡ among (codesOf (number 9)) s) where
-            pub rule-list : not listed ≡ true → 1 ≤ number 10 → (p : Place) → told p (number 10) ≡ first p
+          module _ (of-type : not typed ≡ false) (listed : Bool) (is-listed : listed ≡ among (codesOf (number listColumn)) s) where
+            pub rule-list : not listed ≡ true → 1 ≤ number reasonColumn → (p : Place) → told p (number reasonColumn) ≡ first p
             unfolding firstBroken
-            rule-list e l p = rw (short p, ← escaped, good, ← is-typed, of-type, ← is-listed, e, ne-eqb (number 10) 0 (λ z. omega (arith, z)))
+            rule-list e l p = rw (short p, ← escaped, good, ← is-typed, of-type, ← is-listed, e, ne-eqb (number reasonColumn) 0 (λ z. omega (arith, z)))
 
             pub rule-good : not listed ≡ false → (p : Place) → accepted ≡ first p
             unfolding firstBroken
             rule-good e p = rw (short p, ← escaped, good, ← is-typed, of-type, ← is-listed, e)
 
 -- a leaf whose type and list take any text
-pub rule-any : (q : Marks) (t : List ℕ) (at : ℕ) (s : Text) → 0 < length s → length s ≤ getD t (at + 8) 0 → 4 < getD t (at + 6) 0 → getD t (at + 9) 0 ≡ 0 → badEscape q s ≡ false
+pub rule-any : (q : Marks) (t : List ℕ) (at : ℕ) (s : Text) → 0 < length s → length s ≤ getD t (at + limitColumn) 0 → 4 < getD t (at + typeColumn) 0 → getD t (at + listColumn) 0 ≡ 0 → badEscape q s ≡ false
     → (p : Place) → accepted ≡ firstBroken (leafChecks q p (leafOf (drop at t)) s)
 rule-any q t at s some fits type list good p =
     rule-good q t at s (λ z. omega (arith, z)) fits false (sym good) refl true
-    (other-type (getD t (at + 6) 0) s (λ z. omega (arith, z)) (λ z. omega (arith, z)) (λ z. omega (arith, z)) (λ z. omega (arith, z))) refl true (rw list) refl p
+    (other-type (getD t (at + typeColumn) 0) s (λ z. omega (arith, z)) (λ z. omega (arith, z)) (λ z. omega (arith, z)) (λ z. omega (arith, z))) refl true (rw list) refl p

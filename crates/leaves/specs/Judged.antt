@@ -1,20 +1,36 @@
 -- What only inner functions promise of judging a repetition: its first broken check, told from where a reader stands.
 use Prim.Native.Nat.{ℕ}
 use mathlib.Core.Path.{_≡_}
-use mathlib.Core.Bool.{false}
-use mathlib.Core.List.{List}
+use mathlib.Core.Bool.{Bool, false}
+use mathlib.Core.List.{List, []}
+use lib.ListN.{length}
 use lib.Dec.{eqb}
 use Rattle.text.specs.Bytes.{Text, pick}
 use Rattle.text.specs.declared.marks.Marks.{Marks}
+use Rattle.escape.specs.Escape.{badEscape}
 use Rattle.profile.specs.Table.{Leaf}
 use Rattle.leaves.specs.declared.repetition.ReadRepetition.{ReadRepetition}
 use Rattle.checks.specs.Place.{Place, place}
 use Rattle.checks.specs.View.{entriesOf, isFilled}
-use Rattle.checks.specs.Fault.{Verdict, accepted, fault, repetitionChecks, firstBroken}
+use Rattle.checks.specs.Fault.{Verdict, accepted, fault, leafChecks, repetitionChecks, firstBroken}
 
 -- a reason of nought: nothing is broken
 abbrev pub told : Place → ℕ → Verdict
 told p n = pick (eqb n 0) accepted (fault p n)
+
+-- A LEAF: its first broken check
+abbrev pub ReadsLeaf : Marks → Leaf → Text → ℕ → Type 0
+ReadsLeaf q l s r = (p : Place) → told p r ≡ firstBroken (leafChecks q p l s)
+
+-- any text of n bytes with no bad escape will do at a leaf
+abbrev pub TakesAny : Leaf → ℕ → Type 0
+TakesAny l n = (q : Marks) (s : Text) → length s ≡ n → badEscape q s ≡ false → ReadsLeaf q l s 0
+
+-- LEAVES THAT ARE ALL MISSING: the first broken check; whether leaves before them are filled is handed on
+pub record ReadsMissing (ls : List Leaf) (filled : Bool) (r : ReadRepetition) : Type 0 where
+  pub handed-on : r .filled ≡ filled
+  pub first : (q : Marks) (n : Text) (o f k : ℕ) → told (place n o f k (r .component) (r .subcomponent)) (r .reason)
+      ≡ firstBroken (repetitionChecks q n o f (record { number = k; entries = entriesOf q false ls [] }))
 
 -- A REPETITION: whether it is filled, and its first broken check
 pub record ReadsRepetition (q : Marks) (ls : List Leaf) (s : Text) (r : ReadRepetition) : Type 0 where

@@ -1,21 +1,16 @@
 // The listed leaves of a repetition. Inner: the callers hold that the rows list them, components rising.
-ghost use mathlib.Core.Path.{_≡_};
-ghost use Prim.Native.Nat.{ℕ, _≤_};
-ghost use mathlib.Core.Bool.{false};
-ghost use mathlib.Core.List.{[]};
+ghost use Prim.Native.Nat.{_≤_};
 ghost use lib.ListN.{length};
-ghost use Rattle.text.specs.Bytes.{Text};
-ghost use Rattle.text.specs.declared.marks.Marks.{Marks};
 ghost use Rattle.codes.specs.Inner.{Lists, leavesAt};
-ghost use Rattle.checks.specs.Place.{place};
-ghost use Rattle.checks.specs.View.{entriesOf};
-ghost use Rattle.checks.specs.Fault.{repetitionChecks, firstBroken};
-ghost use Rattle.leaves.specs.Judged.{told, ReadsRepetition};
+ghost use Rattle.leaves.specs.Judged.{ReadsMissing, ReadsRepetition};
 use crate::rule::leaf_reason;
+use checks::reasons;
 use codes::Rows;
 use cursor::advance;
-use cursor::first_far;
+use cursor::first_piece;
 use parts::piece;
+use profile::columns;
+use profile::numbers;
 use text::Marks;
 
 // Whether a repetition is filled; the reason of its first broken check, 0 where there is none, and the place of that leaf.
@@ -27,26 +22,26 @@ pub struct ReadRepetition {
 }
 
 // What is found of leaves that are all missing: the first that is required. `filled` is told of those before them.
-pub fn missing_leaves(filled: bool, t: &[u16], rows: Rows) -> ReadRepetition
-    requires { ⌜ (rows .start ≤ rows .end) × (rows .end ≤ length (now t)) ⌝ }
-    ensures { λ r. ⌜ (r .filled ≡ filled) × ((q : Marks) (n : Text) (o f k : ℕ) → told (place n o f k (r .component) (r .subcomponent)) (r .reason) ≡ firstBroken (repetitionChecks q n o f (record { number = k; entries = entriesOf q false (leavesAt (now (t .entry)) rows) [] }))) ⌝ }
+pub fn missing_leaves(filled: bool, table: &[u16], rows: Rows) -> ReadRepetition
+    requires { ⌜ (rows .start ≤ rows .end) × (rows .end ≤ length (now table)) ⌝ }
+    ensures { λ r. ⌜ ReadsMissing (leavesAt (now (table .entry)) rows) filled r ⌝ }
 {
     let mut at = rows.start;
     let end = rows.end;
-    while 11 <= end - at {
-        if t[at + 7] == 1 {
+    while columns::ROW <= end - at {
+        if table[at + columns::STAR] == numbers::STARRED {
             return ReadRepetition {
                 filled,
-                reason: 3,
-                component: t[at + 2] as u64,
-                subcomponent: t[at + 3] as u64,
+                reason: reasons::MISSING,
+                component: table[at + columns::COMPONENT] as u64,
+                subcomponent: table[at + columns::SUBCOMPONENT] as u64,
             };
         }
-        at += 11;
+        at += columns::ROW;
     }
     ReadRepetition {
         filled,
-        reason: 0,
+        reason: reasons::NOTHING_BROKEN,
         component: 0,
         subcomponent: 0,
     }
@@ -54,29 +49,29 @@ pub fn missing_leaves(filled: bool, t: &[u16], rows: Rows) -> ReadRepetition
 
 // Reads a repetition's listed leaves, components rising, each byte passed once on the way from component to component.
 // Behind the last component there is nothing to read.
-pub fn read_repetition(s: &[u8], q: Marks, t: &[u16], rows: Rows) -> ReadRepetition
-    requires { ⌜ Lists (now t) rows (leavesAt (now t) rows) ⌝ }
-    ensures { λ r. ⌜ ReadsRepetition q (leavesAt (now (t .entry)) rows) (now (s .entry)) r ⌝ }
+pub fn read_repetition(s: &[u8], q: Marks, table: &[u16], rows: Rows) -> ReadRepetition
+    requires { ⌜ Lists (now table) rows (leavesAt (now table) rows) ⌝ }
+    ensures { λ r. ⌜ ReadsRepetition q (leavesAt (now (table .entry)) rows) (now (s .entry)) r ⌝ }
 {
     let mut found = ReadRepetition {
         filled: false,
-        reason: 0,
+        reason: reasons::NOTHING_BROKEN,
         component: 0,
         subcomponent: 0,
     };
-    let mut cursor = first_far(s, q.component);
+    let mut cursor = first_piece(s, q.component, true);
     let mut at = rows.start;
     let end = rows.end;
-    while 11 <= end - at {
-        let number = t[at + 2] as u64;
+    while columns::ROW <= end - at {
+        let number = table[at + columns::COMPONENT] as u64;
         if (cursor.number < number) & (s.len() <= cursor.end) {
-            if found.reason == 0 {
-                return missing_leaves(found.filled, t, Rows { start: at, end });
+            if found.reason == reasons::NOTHING_BROKEN {
+                return missing_leaves(found.filled, table, Rows { start: at, end });
             }
             return found;
         }
-        let sub = t[at + 3] as u64;
-        cursor = advance(s, q.component, cursor, number);
+        let sub = table[at + columns::SUBCOMPONENT] as u64;
+        cursor = advance(s, q.component, false, cursor, number);
         let from = cursor.start;
         let to = cursor.end;
         let part = &s[from..to];
@@ -84,12 +79,12 @@ pub fn read_repetition(s: &[u8], q: Marks, t: &[u16], rows: Rows) -> ReadRepetit
         let a = p.start;
         let b = p.end;
         found.filled = found.filled | (a < b);
-        if found.reason == 0 {
-            found.reason = leaf_reason(&part[a..b], q, false, t, at);
+        if found.reason == reasons::NOTHING_BROKEN {
+            found.reason = leaf_reason(&part[a..b], q, false, table, at);
             found.component = number;
             found.subcomponent = sub;
         }
-        at += 11;
+        at += columns::ROW;
     }
     found
 }

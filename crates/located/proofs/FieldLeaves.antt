@@ -5,8 +5,9 @@ use native.Mathlib.Omega.{arith}
 use mathlib.Core.Bool.{Bool, true, false}
 use mathlib.Core.List.{List}
 use lib.ListN.{length, getD, drop}
-use lib.Seq.{take-take}
+use lib.Seq.{take-take, getD-drop}
 use lib.Dec.{eqb}
+use Rattle.profile.specs.Numbers.{typeColumn, firstField, sureColumn}
 use Rattle.text.specs.Bytes.{Text, pick, within}
 use Rattle.text.specs.declared.marks.Marks.{Marks}
 use Rattle.parts.specs.Split.{split, piece, reach}
@@ -70,25 +71,28 @@ number-step false n h = omega arith
 
 -- THE ROWS that list a field's leaves: its own
 module _ (q : Marks) (t : List ℕ) (s : Text) (k at end : ℕ) (is : IsField t k at end) where
-  pub lists-own : getD t (at + 6) 0 < 10 → Lists t (record { start = at; end = end }) (leavesOfField q t s at end)
+  pub lists-own : getD t (at + typeColumn) 0 < 10 → Lists t (record { start = at; end = end }) (leavesOfField q t s at end)
   lists-own l =
       let w = leaves-plain t k at end is l (namedIn q s) in
       record {
-        order = omega (arith, is .some);
+        some = is .some;
         inside = is .inside;
         leaves = sym (w .0);
         ascends = subst (λ (ls : List Leaf). Ascends 1 ls) (sym (w .0)) (w .1);
+        sure = λ some.
+            let n = getD-drop at t sureColumn 0 in
+            rw (w .0, ← n) (is .sure (rw n some));
       }
 
   -- those of the type that another field names
-  pub named-from : 10 ≤ getD t (at + 6) 0 → pick (eqb k 1) 3 1 ≤ getD t (at + 6) 0 - 10
-  named-from l = number-step (eqb k 1) (getD t (at + 6) 0) (field-namer t k at end is l)
+  pub named-from : 10 ≤ getD t (at + typeColumn) 0 → firstField k ≤ getD t (at + typeColumn) 0 - 10
+  named-from l = number-step (eqb k 1) (getD t (at + typeColumn) 0) (field-namer t k at end is l)
 
-  pub lists-named : (l : 10 ≤ getD t (at + 6) 0) (r : Rows) → Lists t r (leavesNamed t (namedIn q s (getD t (at + 6) 0 - 10))) → Lists t r (leavesOfField q t s at end)
+  pub lists-named : (l : 10 ≤ getD t (at + typeColumn) 0) (r : Rows) → Lists t r (leavesNamed t (namedIn q s (getD t (at + typeColumn) 0 - 10))) → Lists t r (leavesOfField q t s at end)
   lists-named l r h = subst (λ (ls : List Leaf). Lists t r ls) (sym (leaves-named t k at end is l (namedIn q s))) h
 
 -- the type that a field names is its first leaf
-module _ (q : Marks) (t : List ℕ) (s : Text) (k : ℕ) (numbered : HasNumber s k) (namer : ℕ) (low : pick (eqb k 1) 3 1 ≤ namer) where
+module _ (q : Marks) (t : List ℕ) (s : Text) (k : ℕ) (numbered : HasNumber s k) (namer : ℕ) (low : firstField k ≤ namer) where
   named-text : (x : Text) → x ≡ field q s namer → part false (inField q 1 1 1) x ≡ namedIn q s namer
   unfolding leafAt
   named-text x e = rw (field-split s k numbered namer low, ← e)

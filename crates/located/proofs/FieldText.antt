@@ -9,6 +9,7 @@ use lib.ListN.{length, drop, length-drop}
 use lib.Seq.{take-all}
 use lib.Dec.{eqb}
 use borrow.Author.Tests.{lt-leb}
+use Rattle.profile.specs.Numbers.{fieldsBefore, fieldsFrom, firstField}
 use Rattle.text.specs.Bytes.{Text, pick, within}
 use Rattle.text.specs.declared.marks.Marks.{Marks}
 use Rattle.parts.specs.Split.{split, piece}
@@ -33,7 +34,7 @@ below-step : (b : Bool) (f : ℕ) → pick b 3 1 ≤ f → pick b 2 0 + 1 ≤ f
 below-step true f l = l
 below-step false f l = l
 
-pub before-field : (k f : ℕ) → pick (eqb k 1) 3 1 ≤ f → pick (eqb k 1) 2 0 + 1 ≤ f
+pub before-field : (k f : ℕ) → firstField k ≤ f → fieldsBefore k + 1 ≤ f
 before-field k f l = below-step (eqb k 1) f l
 
 -- from MSH-3 on
@@ -58,20 +59,20 @@ split-step : (s : Text) (f : ℕ) (b : Bool) → isHeader s ≡ b → pick b 3 1
 split-step s f true e l = rw (e, lt-leb f 2 l)
 split-step s f false e l = rw e
 
-module _ (s : Text) (k : ℕ) (numbered : HasNumber s k) (f : ℕ) (l : pick (eqb k 1) 3 1 ≤ f) where
-  pub field-text : (q : Marks) → field q s f ≡ piece (f - pick (eqb k 1) 2 0) (split (q .field) (drop (min (pick (eqb k 1) 9 4) (length s)) s))
+module _ (s : Text) (k : ℕ) (numbered : HasNumber s k) (f : ℕ) (l : firstField k ≤ f) where
+  pub field-text : (q : Marks) → field q s f ≡ piece (f - fieldsBefore k) (split (q .field) (drop (min (fieldsFrom k) (length s)) s))
   field-text q =
       text-step q s f (eqb k 1) (header-number (name s) k (numbered .0)) l
-      ∙ ap (λ (t : Text). piece (f - pick (eqb k 1) 2 0) (split (q .field) t)) (sym (drop-min (pick (eqb k 1) 9 4) s))
+      ∙ ap (λ (t : Text). piece (f - fieldsBefore k) (split (q .field) t)) (sym (drop-min (fieldsFrom k) s))
 
   -- where a cursor over the fields stands
-  pub field-at : (q : Marks) (skip b : ℕ) (c : Cursor) → skip ≡ min (pick (eqb k 1) 9 4) (length s) → b ≡ pick (eqb k 1) 2 0
+  pub field-at : (q : Marks) (skip b : ℕ) (c : Cursor) → skip ≡ min (fieldsFrom k) (length s) → b ≡ fieldsBefore k
       → IsPiece (q .field) (within skip (length s) s) c → c .number ≡ f - b → within (c .start) (c .end) (within skip (length s) s) ≡ field q s f
   field-at q skip b c e g p n =
       let x = within skip (length s) s in
       cursor-text (q .field) x c p
       ∙ ap (λ (y : Text). piece (c .number) (split (q .field) y)) (rest-all skip s ∙ ap (λ (i : ℕ). drop i s) e)
-      ∙ ap (λ (i : ℕ). piece i (split (q .field) (drop (min (pick (eqb k 1) 9 4) (length s)) s))) (n ∙ ap (λ (i : ℕ). f - i) g)
+      ∙ ap (λ (i : ℕ). piece i (split (q .field) (drop (min (fieldsFrom k) (length s)) s))) (n ∙ ap (λ (i : ℕ). f - i) g)
       ∙ sym (field-text q)
 
   pub field-split : unsplit s f ≡ false

@@ -4,6 +4,7 @@ ghost use mathlib.Core.Path.{_≡_};
 ghost use mathlib.Core.Bool.{false};
 ghost use Prim.Native.Nat.{_+_, _≤_, min};
 ghost use lib.ListN.{length};
+ghost use Rattle.profile.specs.Numbers.{fieldsBefore, fieldsFrom, firstField};
 ghost use Rattle.text.specs.Bytes.{pick, within};
 ghost use lib.Dec.{eqb};
 ghost use Rattle.parts.specs.Descent.{part, inField};
@@ -17,16 +18,18 @@ use codes::Rows;
 use codes::type_rows;
 use cursor::advance;
 use cursor::first_piece;
-use parts::piece_end;
+use parts::near_end;
+use profile::columns;
+use profile::numbers;
 use text::Marks;
 
 // Where a segment's fields begin: the header's third behind its ninth byte, any other's first behind its name and one
 // separator.
 pub fn fields_start(s: &[u8], k: u16) -> usize
-    ensures { λ r. ⌜ r ≡ min (pick (eqb k 1) 9 4) (length (now (s .entry))) ⌝ }
+    ensures { λ r. ⌜ r ≡ min (fieldsFrom k) (length (now (s .entry))) ⌝ }
 {
     let mut start = 4;
-    if k == 1 {
+    if k == numbers::MSH {
         start = 9;
     }
     if s.len() < start {
@@ -37,9 +40,9 @@ pub fn fields_start(s: &[u8], k: u16) -> usize
 
 // How many fields stand before those: MSH-1 and MSH-2 are the header's separators.
 pub fn fields_before(k: u16) -> u64
-    ensures { λ r. ⌜ r ≡ pick (eqb k 1) 2 0 ⌝ }
+    ensures { λ r. ⌜ r ≡ fieldsBefore k ⌝ }
 {
-    if k == 1 {
+    if k == numbers::MSH {
         return 2;
     }
     0
@@ -47,18 +50,14 @@ pub fn fields_before(k: u16) -> u64
 
 // The text of the field with that number.
 pub fn field_text<'a>(s: &'a [u8], q: Marks, k: u16, number: u64) -> &'a [u8]
-    requires { ⌜ HasNumber (now s) k × (pick (eqb k 1) 3 1 ≤ number) ⌝ }
+    requires { ⌜ HasNumber (now s) k × (firstField k ≤ number) ⌝ }
     ensures { λ r. ⌜ r .now ≡ field q (now (s .entry)) number ⌝ }
 {
     let skip = fields_start(s, k);
     let fields = &s[skip..];
     let before = fields_before(k);
-    let p = advance(
-        fields,
-        q.field,
-        first_piece(fields, q.field),
-        number - before,
-    );
+    let first = first_piece(fields, q.field, false);
+    let p = advance(fields, q.field, false, first, number - before);
     let from = p.start;
     let to = p.end;
     &fields[from..to]
@@ -69,31 +68,31 @@ fn first_leaf(x: &[u8], q: Marks) -> usize
     ensures { λ r. ⌜ r ≤ length (now (x .entry)) ⌝ }
     ensures { λ r. ⌜ within 0 r (now (x .entry)) ≡ part false (inField q 1 1 1) (now (x .entry)) ⌝ }
 {
-    let a = piece_end(x, 0, q.repetition);
-    let b = piece_end(&x[0..a], 0, q.component);
-    piece_end(&x[0..b], 0, q.subcomponent)
+    let a = near_end(x, 0, q.repetition);
+    let b = near_end(&x[0..a], 0, q.component);
+    near_end(&x[0..b], 0, q.subcomponent)
 }
 
 // The rows of the type that the field with that number names.
-fn named_rows(s: &[u8], q: Marks, t: &[u16], k: u16, number: u64) -> Rows
-    requires { ⌜ Sound (now t) × HasNumber (now s) k ⌝ }
-    requires { ⌜ pick (eqb k 1) 3 1 ≤ number ⌝ }
-    ensures { λ r. ⌜ Lists (now (t .entry)) r (leavesNamed (now (t .entry)) (namedIn q (now (s .entry)) number)) ⌝ }
+fn named_rows(s: &[u8], q: Marks, table: &[u16], k: u16, number: u64) -> Rows
+    requires { ⌜ Sound (now table) × HasNumber (now s) k ⌝ }
+    requires { ⌜ firstField k ≤ number ⌝ }
+    ensures { λ r. ⌜ Lists (now (table .entry)) r (leavesNamed (now (table .entry)) (namedIn q (now (s .entry)) number)) ⌝ }
 {
     let x = field_text(s, q, k, number);
     let to = first_leaf(x, q);
-    type_rows(t, &x[0..to])
+    type_rows(table, &x[0..to])
 }
 
 // The rows of the leaves that a field lists: its own, from `at` up to `end`, or those of the type that another one names.
-pub fn leaf_rows(s: &[u8], q: Marks, t: &[u16], k: u16, at: usize, end: usize) -> Rows
-    requires { ⌜ Sound (now t) × HasNumber (now s) k ⌝ }
-    requires { ⌜ IsField (now t) k at end ⌝ }
-    ensures { λ r. ⌜ Lists (now (t .entry)) r (leavesOfField q (now (t .entry)) (now (s .entry)) at end) ⌝ }
+pub fn leaf_rows(s: &[u8], q: Marks, table: &[u16], k: u16, at: usize, end: usize) -> Rows
+    requires { ⌜ Sound (now table) × HasNumber (now s) k ⌝ }
+    requires { ⌜ IsField (now table) k at end ⌝ }
+    ensures { λ r. ⌜ Lists (now (table .entry)) r (leavesOfField q (now (table .entry)) (now (s .entry)) at end) ⌝ }
 {
-    let named = t[at + 6];
-    if named < 10 {
+    let named = table[at + columns::TYPE];
+    if named < numbers::NAMED_BY {
         return Rows { start: at, end };
     }
-    named_rows(s, q, t, k, (named - 10) as u64)
+    named_rows(s, q, table, k, (named - numbers::NAMED_BY) as u64)
 }

@@ -1,5 +1,5 @@
--- A table as the machine has it: an index, then eleven numbers a row. The rows of the segments stand under the numbers 1 to 7; under 8 to 15
--- stand the leaves of the types that a field may name, in the order of OBX-2's list, and under 16 those where it names none.
+-- A table as the machine has it: an index, then the rows. The rows of the segments stand under the numbers 1 to 7; under 8 to 15 stand the leaves of
+-- the types that a field may name, in the order of OBX-2's list, and under 16 those where it names none.
 use Prim.Native.Nat.{ℕ, zero, suc, _-_, _/_}
 use mathlib.Core.Path.{_≡_}
 use mathlib.Core.List.{List, [], _∷_, _++_, map}
@@ -9,6 +9,79 @@ use Rattle.text.specs.Bytes.{Text, pick, bytes, same}
 use Rattle.profile.specs.Table.{Simple, SI, NM, DTM, TM, ST, TX, FT, ID, IS, Codes, any, only, Leaf, Listed, leaf, named-by, Usage, O, R, C, Row, Type-leaves, Table}
 use Rattle.profile.specs.Lists.{message-types, events, processing-ids, versions, sexes, yes-no, order-controls, result-statuses, value-types, observation-statuses}
 use Rattle.profile.specs.Profile.{succession, ends}
+
+-- how many numbers a row has, and what they are: its columns, counted from 0
+abbrev pub rowSize : ℕ
+rowSize = 13
+
+abbrev pub segmentColumn : ℕ
+segmentColumn = 0
+
+abbrev pub fieldColumn : ℕ
+fieldColumn = 1
+
+abbrev pub componentColumn : ℕ
+componentColumn = 2
+
+abbrev pub subcomponentColumn : ℕ
+subcomponentColumn = 3
+
+abbrev pub usageColumn : ℕ
+usageColumn = 4
+
+abbrev pub repetitionsColumn : ℕ
+repetitionsColumn = 5
+
+abbrev pub typeColumn : ℕ
+typeColumn = 6
+
+abbrev pub starColumn : ℕ
+starColumn = 7
+
+abbrev pub limitColumn : ℕ
+limitColumn = 8
+
+abbrev pub listColumn : ℕ
+listColumn = 9
+
+abbrev pub reasonColumn : ℕ
+reasonColumn = 10
+
+-- two that only spare the machine work, and say nothing of the table (Order.antt): where the rows of the next field begin, and how long a text may be that is
+-- sure to pass
+abbrev pub nextColumn : ℕ
+nextColumn = 11
+
+abbrev pub sureColumn : ℕ
+sureColumn = 12
+
+-- the header's number, the first number of a type, and that of a text that names none
+abbrev pub headerNumber : ℕ
+headerNumber = 1
+
+abbrev pub firstType : ℕ
+firstType = 8
+
+abbrev pub noType : ℕ
+noType = 16
+
+-- a type from this number on is the one that a field names: this number and the field's
+abbrev pub namedBy : ℕ
+namedBy = 10
+
+-- the first field of a segment with that number that a row may list, since MSH-1 and MSH-2 are the header's separators; how many fields stand before it,
+-- and from which byte on they stand
+abbrev pub firstField : ℕ → ℕ
+firstField k = pick (eqb k headerNumber) 3 1
+
+abbrev pub firstNamer : ℕ → ℕ
+firstNamer k = pick (eqb k headerNumber) 13 11
+
+abbrev pub fieldsBefore : ℕ → ℕ
+fieldsBefore k = pick (eqb k headerNumber) 2 0
+
+abbrev pub fieldsFrom : ℕ → ℕ
+fieldsFrom k = pick (eqb k headerNumber) 9 4
 
 -- segments and lists by number, from 1
 abbrev pub segmentNames : List Text
@@ -43,41 +116,40 @@ simpleOf n =
     pick (eqb n 1) SI (pick (eqb n 2) NM (pick (eqb n 3) DTM (pick (eqb n 4) TM (pick (eqb n 5) ST
     (pick (eqb n 6) TX (pick (eqb n 7) FT (pick (eqb n 8) ID IS)))))))
 
--- the row that the first eleven of these numbers are, and the leaf that it lists
+-- the row that the first of these numbers are, and the leaf that it lists
 abbrev pub leafOf : List ℕ → Leaf
 leafOf r =
     record {
-      component = getD r 2 0;
-      subcomponent = getD r 3 0;
-      type = simpleOf (getD r 6 0);
-      star = eqb (getD r 7 0) 1;
-      limit = getD r 8 0;
-      list = codesOf (getD r 9 0);
-      reason = getD r 10 0;
+      component = getD r componentColumn 0;
+      subcomponent = getD r subcomponentColumn 0;
+      type = simpleOf (getD r typeColumn 0);
+      star = eqb (getD r starColumn 0) 1;
+      limit = getD r limitColumn 0;
+      list = codesOf (getD r listColumn 0);
+      reason = getD r reasonColumn 0;
     }
 
--- type 10 and a field's number: the type that this field names
 abbrev pub listedOf : List ℕ → Listed
-listedOf r = pick (ltb (getD r 6 0) 10) (leaf (leafOf r)) (named-by (getD r 6 0 - 10))
+listedOf r = pick (ltb (getD r typeColumn 0) namedBy) (leaf (leafOf r)) (named-by (getD r typeColumn 0 - namedBy))
 
 abbrev pub rowOf : Text → List ℕ → Row
 rowOf n r =
     record {
       segment = n;
-      field = getD r 1 0;
-      usage = usageOf (getD r 4 0);
-      repetitions = getD r 5 0;
+      field = getD r fieldColumn 0;
+      usage = usageOf (getD r usageColumn 0);
+      repetitions = getD r repetitionsColumn 0;
       lists = listedOf r;
     }
 
 -- k rows: the numbers from each of them on
 unfoldable pub rowsFrom : ℕ → List ℕ → List (List ℕ)
 rowsFrom zero t = []
-rowsFrom (suc k) t = t ∷ rowsFrom k (drop 11 t)
+rowsFrom (suc k) t = t ∷ rowsFrom k (drop rowSize t)
 
 -- the rows from one place of a table up to another
 abbrev pub rowsWithin : ℕ → ℕ → List ℕ → List (List ℕ)
-rowsWithin at end t = rowsFrom ((end - at) / 11) (drop at t)
+rowsWithin at end t = rowsFrom ((end - at) / rowSize) (drop at t)
 
 -- THE INDEX: where the rows under a number begin; the next number's beginning is their end
 abbrev pub begin : List ℕ → ℕ → ℕ
@@ -98,7 +170,7 @@ abbrev pub segmentNumber : Text → ℕ
 segmentNumber n = numberIn 0 1 segmentNames n
 
 abbrev pub typeNumber : Text → ℕ
-typeNumber t = numberIn 16 8 value-types t
+typeNumber t = numberIn noType firstType value-types t
 
 -- types with their leaves, the first of them under number k
 unfoldable pub typesFrom : ℕ → List Text → List ℕ → List Type-leaves
@@ -115,8 +187,8 @@ unfoldable pub tableOf : List ℕ → Table
 tableOf t =
     record {
       rows = segmentsFrom 1 segmentNames t;
-      types = typesFrom 8 value-types t;
-      otherwise = leavesUnder 16 t;
+      types = typesFrom firstType value-types t;
+      otherwise = leavesUnder noType t;
       succession = succession;
       ends = ends;
     }

@@ -1,17 +1,18 @@
 -- The table's rule: what the code that reads a lent table relies on. It is tested once, over the whole table.
 use Prim.Native.Nat.{ℕ, suc, _+_, _*_, _-_, _/_}
 use mathlib.Core.Path.{_≡_}
-use mathlib.Core.Bool.{Bool, true, not, _&&_, _||_}
+use mathlib.Core.Bool.{Bool, true, false, not, _&&_, _||_}
 use mathlib.Core.List.{List, [], _∷_, map}
-use lib.ListN.{length, getD}
+use lib.ListN.{length, getD, take}
 use lib.Dec.{eqb, leb, ltb}
 use Rattle.text.specs.Bytes.{pick, every}
 use Rattle.text.specs.Limits.{_to_, isWithin}
-use Rattle.profile.specs.Numbers.{rowsWithin, begin, under}
+use Rattle.profile.specs.Table.{Simple, SI, NM, DTM, TM, ST, TX, FT, ID, IS, Codes, any, only, Leaf}
+use Rattle.profile.specs.Numbers.{rowSize, segmentColumn, fieldColumn, componentColumn, subcomponentColumn, repetitionsColumn, typeColumn, reasonColumn, nextColumn, sureColumn, firstType, noType, namedBy, firstField, firstNamer, leafOf, rowsWithin, begin, under}
 
 -- a row's place as one number: segment, field, component, subcomponent
-abbrev pub placeOf : List ℕ → ℕ
-placeOf r = ((getD r 0 0 * 256 + getD r 1 0) * 256 + getD r 2 0) * 256 + getD r 3 0
+abbrev pub rankOf : List ℕ → ℕ
+rankOf r = ((getD r segmentColumn 0 * 256 + getD r fieldColumn 0) * 256 + getD r componentColumn 0) * 256 + getD r subcomponentColumn 0
 
 -- each number is above the one before it
 unfoldable pub rising : List ℕ → Bool
@@ -21,60 +22,106 @@ rising (x ∷ y ∷ l) = ltb x y && rising (y ∷ l)
 
 -- STRICTLY RISING PLACE ORDER
 abbrev pub rises : List (List ℕ) → Bool
-rises rs = rising (map placeOf rs)
+rises rs = rising (map rankOf rs)
 
 -- the columns of a place are single bytes
 abbrev pub small : List ℕ → Bool
-small r = ltb (getD r 1 0) 256 && ltb (getD r 2 0) 256 && ltb (getD r 3 0) 256
+small r = ltb (getD r fieldColumn 0) 256 && ltb (getD r componentColumn 0) 256 && ltb (getD r subcomponentColumn 0) 256
 
 -- a row whose type another field names, and one that lists a leaf: component and reason are numbers from 1
 abbrev pub isNamed : List ℕ → Bool
-isNamed r = leb 10 (getD r 6 0)
+isNamed r = leb namedBy (getD r typeColumn 0)
 
 abbrev pub listsLeaf : List ℕ → Bool
-listsLeaf r = not (isNamed r) && leb 1 (getD r 2 0) && isWithin (1 to 12) (getD r 10 0)
+listsLeaf r = not (isNamed r) && leb 1 (getD r componentColumn 0) && isWithin (1 to 12) (getD r reasonColumn 0)
 
 -- a field's number is one from 1; of the header from 3, since MSH-1 and MSH-2 are its separators. A type's rows are of one field
 abbrev pub fieldFits : List ℕ → Bool
 fieldFits r =
-    leb (pick (eqb (getD r 0 0) 1) 3 1) (getD r 1 0) && (ltb (getD r 0 0) 8 || eqb (getD r 1 0) 1 && not (isNamed r))
+    leb (firstField (getD r segmentColumn 0)) (getD r fieldColumn 0) && (ltb (getD r segmentColumn 0) firstType || eqb (getD r fieldColumn 0) 1 && not (isNamed r))
 
 -- a row whose type another field names has type 10 and that field's number: one from 1, of the header from 3
 abbrev pub namerFits : List ℕ → Bool
-namerFits r = leb (pick (eqb (getD r 0 0) 1) 13 11) (getD r 6 0)
+namerFits r = leb (firstNamer (getD r segmentColumn 0)) (getD r typeColumn 0)
 
 abbrev pub isProper : List ℕ → Bool
-isProper r = small r && fieldFits r && leb 1 (getD r 5 0) && (namerFits r || listsLeaf r)
+isProper r = small r && fieldFits r && leb 1 (getD r repetitionsColumn 0) && (namerFits r || listsLeaf r)
 
 -- a row whose type another field names is the only one of its field
 abbrev pub sameField : List ℕ → List ℕ → Bool
-sameField x y = eqb (getD x 0 0) (getD y 0 0) && eqb (getD x 1 0) (getD y 1 0)
+sameField x y = eqb (getD x segmentColumn 0) (getD y segmentColumn 0) && eqb (getD x fieldColumn 0) (getD y fieldColumn 0)
 
 unfoldable pub alone : List (List ℕ) → Bool
 alone [] = true
 alone (x ∷ []) = true
 alone (x ∷ y ∷ l) = not (sameField x y && (isNamed x || isNamed y)) && alone (y ∷ l)
 
+-- how many of these rows come first that are of that field
+unfoldable pub ofField : ℕ → List (List ℕ) → ℕ
+ofField f [] = 0
+ofField f (r ∷ rs) = pick (eqb (getD r fieldColumn 0) f) (suc (ofField f rs)) 0
+
+-- THE NEXT FIELD's rows begin where a row says so: the row begins at that place, and others follow it
+abbrev pub leads : ℕ → List ℕ → List (List ℕ) → Bool
+leads at r rs = eqb (getD r nextColumn 0) (at + ofField (getD r fieldColumn 0) (r ∷ rs) * rowSize)
+
+-- any text of up to n bytes will do at a leaf; only component 1 may be starred
+abbrev pub takesAny : Simple → Bool
+takesAny SI = false
+takesAny NM = false
+takesAny DTM = false
+takesAny TM = false
+takesAny ST = true
+takesAny TX = true
+takesAny FT = true
+takesAny ID = true
+takesAny IS = true
+
+abbrev pub hasNoList : Codes → Bool
+hasNoList any = true
+hasNoList (only l) = false
+
+abbrev pub takesUpTo : ℕ → Leaf → Bool
+takesUpTo n l =
+    leb n (l .limit)
+    && takesAny (l .type)
+    && hasNoList (l .list)
+    && eqb (l .subcomponent) 1
+    && (not (l .star) || eqb (l .component) 1)
+
+-- SURE TO PASS: where a row says a length, it is of component 1, and texts of up to so many bytes will do at each leaf of its field
+abbrev pub isSure : List ℕ → List (List ℕ) → Bool
+isSure r rs =
+    eqb (getD r sureColumn 0) 0
+    || eqb (getD r componentColumn 0) 1
+    && every (λ (x : List ℕ). takesUpTo (getD r sureColumn 0) (leafOf x)) (take (ofField (getD r fieldColumn 0) (r ∷ rs)) (r ∷ rs))
+
+-- both hold of each of these rows, the first of which begins at that place
+unfoldable pub guides : ℕ → List (List ℕ) → Bool
+guides at [] = true
+guides at (r ∷ rs) = leads at r rs && isSure r rs && guides (at + rowSize) rs
+
 abbrev pub numbers : List ℕ
 numbers = 1 ∷ 2 ∷ 3 ∷ 4 ∷ 5 ∷ 6 ∷ 7 ∷ 8 ∷ 9 ∷ 10 ∷ 11 ∷ 12 ∷ 13 ∷ 14 ∷ 15 ∷ 16 ∷ []
 
--- the rows behind the index; under each number some begin and end among them, whole rows apart
+-- the rows behind the index; under each number some begin and end among them, whole rows apart, and guide the reader through them
 abbrev pub behind : ℕ
-behind = 18
+behind = noType + 2
 
 abbrev pub allRows : List ℕ → List (List ℕ)
 allRows t = rowsWithin behind (length t) t
 
 -- rows of the segment, or of the type, with that number
 abbrev pub areOf : ℕ → List (List ℕ) → Bool
-areOf k rs = every (λ (r : List ℕ). eqb (getD r 0 0) k) rs
+areOf k rs = every (λ (r : List ℕ). eqb (getD r segmentColumn 0) k) rs
 
 abbrev pub isWhole : ℕ → List ℕ → Bool
 isWhole k t =
-    eqb (begin t k) (behind + (begin t k - behind) / 11 * 11)
-    && ltb (begin t k) (begin t (suc k))
+    eqb (begin t k) (behind + (begin t k - behind) / rowSize * rowSize)
+    && leb (begin t k + rowSize) (begin t (suc k))
     && leb (begin t (suc k)) (length t)
     && areOf k (under k t)
+    && guides (begin t k) (under k t)
 
 -- rows in order: what those within a place and another have of all of them
 pub record Ordered (rs : List (List ℕ)) : Type 0 where

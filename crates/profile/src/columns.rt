@@ -19,5 +19,11 @@ pub const LIST: usize = 9;
 
 pub const REASON: usize = 10;
 
+// Two that only spare work: where the rows of the next field begin; and in a field's first row how long a text may be that is sure to pass, if it has
+// components at most and does not begin with a separator (0 where that cannot be said).
+pub const NEXT: usize = 11;
+
+pub const SURE: usize = 12;
+
 // How many numbers a row has.
-pub const ROW: usize = 11;
+pub const ROW: usize = 13;

@@ -10,7 +10,7 @@ mod table;
 use table::PROFILE;
 
 // The table, to be lent to whatever reads one: an entry takes it once. Inner: what its promise leaves open, no reader of a table looks at.
-pub fn profile() -> [u16; 1228]
+pub fn profile() -> [u16; 1448]
     ensures rows { λ r. ⌜ Tells r profile01 ⌝ }
     ensures rule { λ r. ⌜ Sound r ⌝ }
 {

@@ -55,6 +55,9 @@ pub const REQUIRED: u16 = 1;
 
 pub const CONDITIONAL: u16 = 2;
 
+// What a row says of a leaf that is required within a filled repetition.
+pub const STARRED: u16 = 1;
+
 // The lists of codes; 0 is no list.
 pub const ANY: u16 = 0;
 

@@ -1,34 +1,32 @@
 -- The first broken check of a field, by its three kinds.
-use mathlib.Core.Path.{_≡_, refl, sym, ap, _∙_}
-use Prim.Native.Nat.{ℕ, _+_, _≤_}
+use mathlib.Core.Path.{_≡_, refl, sym, ap, subst, _∙_}
+use Prim.Native.Nat.{ℕ, _+_}
 use native.Mathlib.Numerals.{add-one}
 use native.Mathlib.Omega.{arith}
 use mathlib.Core.Bool.{Bool, true, false, not, _&&_}
 use mathlib.Core.List.{List, [], flatMap}
 use lib.ListN.{length, getD}
-use lib.Dec.{eqb, ltb}
+use lib.Dec.{ltb}
 use borrow.Author.Tests.{le-ltb, not-true, not-false}
-use Rattle.text.specs.Bytes.{Text, pick, some}
+use Rattle.text.specs.Bytes.{Text, some}
 use Rattle.text.specs.declared.marks.Marks.{Marks}
 use Rattle.frame.specs.Segments.{field, unsplit}
-use Rattle.profile.specs.Table.{Rule}
+use Rattle.profile.specs.Table.{Rule, Leaf}
+use Rattle.profile.specs.Numbers.{fieldColumn, repetitionsColumn, usageColumn, usageOf, tableOf}
 use Rattle.codes.specs.declared.rows.Rows.{Rows}
-use Rattle.profile.specs.Numbers.{usageOf, tableOf}
-use Rattle.codes.specs.Inner.{Lists, leavesAt, ruleAt}
+use Rattle.codes.specs.Inner.{Lists, IsField, leavesAt, ruleAt}
+use Rattle.codes.proofs.OneField.{field-low}
 use Rattle.fields.specs.declared.field.ReadField.{ReadField}
-use Rattle.segments.specs.declared.Finding.{Finding}
-use Rattle.checks.specs.View.{Repetition, Field, filledFrom, fieldSeen, segmentSeen}
+use Rattle.fields.specs.Judged.{repetitionsIn, filledIn, ReadsField}
+use Rattle.checks.specs.View.{Repetition, Field, filledFrom, fieldSeen}
 use Rattle.checks.specs.Fault.{Verdict, accepted, firstFilled, isRequired, repetitionChecks, fieldChecks, firstBroken}
 use Rattle.listing.specs.Listing.{HasNumber}
-use Rattle.segments.specs.Judged.{toldAt, atRepetition, ReadsFieldAt}
 use Rattle.located.specs.Listed.{leavesOfField}
-use Rattle.fields.specs.Judged.{repetitionsIn, filledIn, ReadsField}
-use Rattle.usage.proofs.FieldSeen as seen
-use Rattle.usage.proofs.FieldSeen.{seen-surplus, seen-filled}
-
--- an optional field is not required
-pub usage-none : (u : ℕ) (vs : List Field) → u ≡ 0 → false ≡ isRequired (usageOf u) vs
-usage-none u vs e = rw e
+use Rattle.located.proofs.FieldText.{field-split}
+use Rattle.usage.specs.Listed.{fieldsSeen}
+use Rattle.usage.proofs.FieldSeen.{seen-surplus, seen-filled, seen-first}
+use Rattle.segments.specs.declared.Finding.{Finding}
+use Rattle.segments.specs.Judged.{toldAt, atRepetition, ReadsFieldAt}
 
 -- too many repetitions; missing; else that of its filled repetitions
 module _ (q : Marks) (v : Field) (vs : List Field) (n : Text) (o : ℕ) where
@@ -50,90 +48,83 @@ and-no : (b c : Bool) → c ≡ true → b && not c ≡ false
 and-no true c e = rw e
 and-no false c e = refl
 
--- A FIELD OF A SEGMENT
-module _ (q : Marks) (t : List ℕ) (s : Text) (k at end : ℕ) (numbered : HasNumber s k) (low : pick (eqb k 1) 3 1 ≤ getD t (at + 1) 0) where
+-- A FIELD OF A SEGMENT, and the text that stands there
+pub record FieldText (q : Marks) (table : List ℕ) (s : Text) (k at end : ℕ) (x : Text) : Type 0 where
+  pub numbered : HasNumber s k
+  pub rows : IsField table k at end
+  pub text : x ≡ field q s (getD table (at + fieldColumn) 0)
+
+module _ {q : Marks} {table : List ℕ} {s : Text} {k at end : ℕ} {x : Text} (h : FieldText q table s k at end x) where
   abbrev u : Rule
-  u = ruleAt t at end
+  u = ruleAt table at end
 
   abbrev v : Field
-  v = fieldSeen (tableOf t) q s u
+  v = fieldSeen (tableOf table) q s u
 
-  abbrev vs : List Field
-  vs = segmentSeen (tableOf t) q s .fields
+  abbrev required : Bool
+  required = isRequired (usageOf (getD table (at + usageColumn) 0)) (fieldsSeen table q s)
 
   cut : unsplit s (u .field) ≡ false
-  cut = seen.cut q t s k at end numbered low
+  cut = field-split s k (h .numbered) (u .field) (field-low table k at end (h .rows))
 
-  -- of no bytes it is missing or breaks nothing
-  module _ (x : Text) (none : x ≡ []) (is : x ≡ field q s (getD t (at + 1) 0)) where
+  -- of no bytes it breaks nothing unless it is required
+  module _ (none : x ≡ []) where
     few-none : v .surplus ≡ false
     few-none =
-        seen-surplus (tableOf t) q s u x is cut
+        seen-surplus (tableOf table) q s u x (h .text) cut
         ∙ ap (λ (y : Text). ltb (u .repetitions) (length (repetitionsIn q y))) none
         ∙ le-ltb (u .repetitions) 0 (omega arith)
 
     filled-none : v .filled ≡ []
     unfolding filledFrom
-    filled-none = seen-filled (tableOf t) q s u x is cut ∙ ap (filledIn q (leavesOfField q t s at end)) none
+    filled-none = seen-filled (tableOf table) q s u x (h .text) cut ∙ ap (filledIn q (leavesOfField q table s at end)) none
 
-    first-none : firstFilled v ≡ false
-    unfolding some
-    first-none = rw filled-none
-
-    module _ (r : Bool) (required : r ≡ isRequired (usageOf (getD t (at + 4) 0)) vs) where
-      pub none-missing : r ≡ true → ReadsFieldAt q t s at end (atRepetition 3 (getD t (at + 1) 0) 1)
-      unfolding fieldSeen
-      none-missing y n o = first-missing q v vs n o few-none (sym required ∙ y) first-none
-
-      pub none-passes : r ≡ false → ReadsFieldAt q t s at end (atRepetition 0 0 0)
-      unfolding fieldSeen firstBroken flatMap
-      none-passes y n o = first-inside q v vs n o few-none (rw (← required, y)) accepted (rw filled-none)
+    pub none-passes : required ≡ false → ReadsFieldAt q table s at end (atRepetition 0 0 0)
+    unfolding fieldSeen firstBroken flatMap
+    none-passes y n o = first-inside q v (fieldsSeen table q s) n o few-none (rw y) accepted (rw filled-none)
 
   -- what was read of it, by the rows of its leaves, tells its first broken check
-  module _ (x : Text) (is : x ≡ field q s (getD t (at + 1) 0))
-      (rows : Rows) (lists : Lists t rows (leavesOfField q t s at end)) (a : ReadField) (by-rows : ReadsField q (leavesAt t rows) (getD t (at + 5) 0) x a) where
-    reads : ReadsField q (leavesOfField q t s at end) (u .repetitions) x a
-    reads = seen.reads q t s k at end numbered low x is rows lists a by-rows
+  module _ {rows : Rows} (lists : Lists table rows (leavesOfField q table s at end)) {a : ReadField} (by-rows : ReadsField q (leavesAt table rows) (getD table (at + repetitionsColumn) 0) x a) where
+    reads : ReadsField q (leavesOfField q table s at end) (u .repetitions) x a
+    reads = subst (λ (ls : List Leaf). ReadsField q ls (u .repetitions) x a) (lists .leaves) by-rows
 
     surplus-is : a .surplus ≡ v .surplus
-    surplus-is = seen.surplus-is q t s k at end numbered low x is rows lists a by-rows
+    surplus-is = reads .surplus ∙ sym (seen-surplus (tableOf table) q s u x (h .text) cut)
 
     filled-is : a .filled ≡ firstFilled v
-    filled-is = seen.filled-is q t s k at end numbered low x is rows lists a by-rows
+    filled-is = reads .filled ∙ sym (seen-first (tableOf table) q s u x (h .text) cut)
 
     pub judged-surplus : a .surplus ≡ true
-        → ReadsFieldAt q t s at end (atRepetition 4 (getD t (at + 1) 0) (getD t (at + 5) 0 + 1))
+        → ReadsFieldAt q table s at end (atRepetition 4 (getD table (at + fieldColumn) 0) (getD table (at + repetitionsColumn) 0 + 1))
     unfolding fieldSeen
-    judged-surplus y n o = first-surplus q v vs n o (sym surplus-is ∙ y)
+    judged-surplus y n o = first-surplus q v (fieldsSeen table q s) n o (sym surplus-is ∙ y)
 
     abbrev inner : Finding
     inner =
         record {
           reason = a .reason;
-          field = getD t (at + 1) 0;
+          field = getD table (at + fieldColumn) 0;
           repetition = a .repetition;
           component = a .component;
           subcomponent = a .subcomponent;
         }
 
-    judged-inside : a .surplus ≡ false → isRequired (usageOf (getD t (at + 4) 0)) vs && not (firstFilled v) ≡ false → ReadsFieldAt q t s at end inner
+    judged-inside : a .surplus ≡ false → required && not (firstFilled v) ≡ false → ReadsFieldAt q table s at end inner
     unfolding fieldSeen
     judged-inside few m n o =
         let f = u .field in
-        first-inside q v vs n o (sym surplus-is ∙ few) m (toldAt n o inner)
+        first-inside q v (fieldsSeen table q s) n o (sym surplus-is ∙ few) m (toldAt n o inner)
         (reads .first few n o f
-        ∙ ap (λ (rs : List Repetition). firstBroken (flatMap (repetitionChecks q n o f) rs)) (sym (seen-filled (tableOf t) q s u x is cut)))
+        ∙ ap (λ (rs : List Repetition). firstBroken (flatMap (repetitionChecks q n o f) rs)) (sym (seen-filled (tableOf table) q s u x (h .text) cut)))
 
-    module _ (few : a .surplus ≡ false) (r : Bool) (required : r ≡ isRequired (usageOf (getD t (at + 4) 0)) vs) where
-      pub judged-missing : not (a .filled) ≡ true → r ≡ true
-          → ReadsFieldAt q t s at end (atRepetition 3 (getD t (at + 1) 0) 1)
+    module _ (few : a .surplus ≡ false) {r : Bool} (is : r ≡ required) where
+      pub judged-missing : not (a .filled) ≡ true → r ≡ true → ReadsFieldAt q table s at end (atRepetition 3 (getD table (at + fieldColumn) 0) 1)
       unfolding fieldSeen
       judged-missing e y n o =
-          first-missing q v vs n o (sym surplus-is ∙ few) (sym required ∙ y) (sym filled-is ∙ not-true (a .filled) e)
+          first-missing q v (fieldsSeen table q s) n o (sym surplus-is ∙ few) (sym is ∙ y) (sym filled-is ∙ not-true (a .filled) e)
 
-      pub judged-optional : r ≡ false → ReadsFieldAt q t s at end inner
-      judged-optional y = judged-inside few (rw (← required, y))
+      pub judged-optional : r ≡ false → ReadsFieldAt q table s at end inner
+      judged-optional y = judged-inside few (rw (← is, y))
 
-    pub judged-filled : a .surplus ≡ false → not (a .filled) ≡ false → ReadsFieldAt q t s at end inner
-    judged-filled few e =
-        judged-inside few (and-no (isRequired (usageOf (getD t (at + 4) 0)) vs) (firstFilled v) (sym filled-is ∙ not-false (a .filled) e))
+    pub judged-filled : a .surplus ≡ false → not (a .filled) ≡ false → ReadsFieldAt q table s at end inner
+    judged-filled few e = judged-inside few (and-no required (firstFilled v) (sym filled-is ∙ not-false (a .filled) e))

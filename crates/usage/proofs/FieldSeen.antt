@@ -10,7 +10,7 @@ use Rattle.text.specs.declared.marks.Marks.{Marks}
 use Rattle.frame.specs.Segments.{field, unsplit}
 use Rattle.profile.specs.Table.{Table, Leaf, Rule, leavesOf}
 use Rattle.codes.specs.declared.rows.Rows.{Rows}
-use Rattle.profile.specs.Numbers.{tableOf}
+use Rattle.profile.specs.Numbers.{tableOf, fieldColumn, repetitionsColumn, firstField}
 use Rattle.codes.specs.Inner.{Lists, leavesAt, ruleAt}
 use Rattle.fields.specs.declared.field.ReadField.{ReadField}
 use Rattle.checks.specs.Place.{repetitions}
@@ -39,7 +39,7 @@ module _ (T : Table) (q : Marks) (s : Text) (u : Rule) (x : Text) (is : x ≡ fi
   seen-first = rw seen-filled
 
 -- a field of a segment
-module _ (q : Marks) (t : List ℕ) (s : Text) (k at end : ℕ) (numbered : HasNumber s k) (low : pick (eqb k 1) 3 1 ≤ getD t (at + 1) 0) where
+module _ (q : Marks) (t : List ℕ) (s : Text) (k at end : ℕ) (numbered : HasNumber s k) (low : firstField k ≤ getD t (at + fieldColumn) 0) where
   abbrev u : Rule
   u = ruleAt t at end
 
@@ -50,8 +50,8 @@ module _ (q : Marks) (t : List ℕ) (s : Text) (k at end : ℕ) (numbered : HasN
   cut = field-split s k numbered (u .field) low
 
   -- what was read of it, by the rows of its leaves, is what is seen of it
-  module _ (x : Text) (is : x ≡ field q s (getD t (at + 1) 0))
-      (rows : Rows) (lists : Lists t rows (leavesOfField q t s at end)) (a : ReadField) (by-rows : ReadsField q (leavesAt t rows) (getD t (at + 5) 0) x a) where
+  module _ (x : Text) (is : x ≡ field q s (getD t (at + fieldColumn) 0))
+      (rows : Rows) (lists : Lists t rows (leavesOfField q t s at end)) (a : ReadField) (by-rows : ReadsField q (leavesAt t rows) (getD t (at + repetitionsColumn) 0) x a) where
     pub reads : ReadsField q (leavesOfField q t s at end) (u .repetitions) x a
     reads = subst (λ (ls : List Leaf). ReadsField q ls (u .repetitions) x a) (lists .leaves) by-rows
 

@@ -9,10 +9,10 @@ use Rattle.cursor.proofs.advance.Statement.{statement}
 use Rattle.cursor.proofs.advance.Tie as tie
 
 abbrev Inv-loop : tie.InvT-loop
-Inv-loop t sep n number₀ start₀ end₀ number start end = IsPiece sep t (cursor number start end) × (number ≤ n)
+Inv-loop t sep far n number₀ start₀ end₀ number start end = IsPiece sep t (cursor number start end) × (number ≤ n)
 
 abbrev μ-loop : tie.MeasureT-loop
-μ-loop t sep n number₀ start₀ end₀ number start end = n - number
+μ-loop t sep far n number₀ start₀ end₀ number start end = n - number
 
 loop-holds : tie.Need-loop-holds Inv-loop μ-loop
 loop-holds c = c .before .pre
@@ -27,7 +27,7 @@ loop-again : tie.Need-loop-again Inv-loop μ-loop
 loop-again c =
     let at = c .before .before .before in
     let a = at .before .before .args in (
-      cursor-on (a .sep) (a .t .now) (at .loop .number) (at .loop .start) (at .loop .end) (c .near-end .result) (at .loop .inv .0) (c .before .if1 .left) (c .near-end .ensures),
+      cursor-on (a .sep) (a .t .now) (at .loop .number) (at .loop .start) (at .loop .end) (c .end-from .result) (at .loop .inv .0) (c .before .if1 .left) (c .end-from .ensures),
       search needs,
     )
 

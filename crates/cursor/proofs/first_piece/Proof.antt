@@ -8,7 +8,7 @@ use Rattle.cursor.proofs.first_piece.Tie as tie
 returns : tie.Need-returns
 returns c =
     let a = c .before .before .args in
-    (cursor-first (a .sep) (a .t .now) (c .near-end .result) (c .near-end .ensures), refl)
+    (cursor-first (a .sep) (a .t .now) (c .end-from .result) (c .end-from .ensures), refl)
 
 pub first-piece-spec : {M : Type 1} → statement M
 first-piece-spec = tie.close (tie.spec (λ c κs. search needs) returns)

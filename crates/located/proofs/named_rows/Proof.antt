@@ -10,7 +10,7 @@ returns c =
     let x = l .before in
     let o = x .before .before .before in
     let a = o .args in
-    lists-type (a .q) (a .t .now) (a .s .now) (a .k) (o .pre .0 .1) (a .number) (o .pre .1) (c .type-rows .result)
+    lists-type (a .q) (a .table .now) (a .s .now) (a .k) (o .pre .0 .1) (a .number) (o .pre .1) (c .type-rows .result)
     (x .field-text .result .now) (x .field-text .ensures) (l .first-leaf .result) (l .first-leaf .ensures .1) (c .type-rows .ensures)
 
 pub named-rows-spec : {M : Type 1} → statement M

@@ -40,13 +40,13 @@ taken : (c : tie.Joined2 Inv-loop μ-loop) (left : List Text)
     let at = h .before .before in
     let a = at .before .before .before .before .args in
     split (a .q .repetition) (drop (at .loop .start) (a .s .now)) ≡ within (at .loop .start) (h .piece-end .result) (a .s .now) ∷ left
-    → Repeats (a .q) (leavesAt (a .t .now) (a .rows)) (a .s .now) (at .loop .number + 1) left (c .if2 .found)
+    → Repeats (a .q) (leavesAt (a .table .now) (a .rows)) (a .s .now) (at .loop .number + 1) left (c .if2 .found)
 taken c left e =
     let h = c .before .before in
     let at = h .before .before in
     let a = at .before .before .before .before .args in
     let x = a .s .now in
-    let ls = leavesAt (a .t .now) (a .rows) in
+    let ls = leavesAt (a .table .now) (a .rows) in
     let p = within (at .loop .start) (h .piece-end .result) x in
     let w : Repeats (a .q) ls x (at .loop .number) (p ∷ left) (at .loop .found) = rw e at (at .loop .inv .1 .1) in
     ⊎-elim
@@ -61,7 +61,7 @@ returns-2 c =
     let h = c .before .before .before in
     let at = h .before .before in
     let a = at .before .before .before .before .args in
-    repeats-last (a .q) (leavesAt (a .t .now) (a .rows)) (a .s .now) (at .loop .number) (a .most) (c .before .if2 .found) (h .before .loop-test .taken)
+    repeats-last (a .q) (leavesAt (a .table .now) (a .rows)) (a .s .now) (at .loop .number) (a .most) (c .before .if2 .found) (h .before .loop-test .taken)
     (taken (c .before) [] (split-whole (a .q .repetition) (a .s .now) (at .loop .start) (h .piece-end .result) (at .loop .inv .0) (h .piece-end .ensures) (c .if4 .taken)))
 
 loop-again : tie.Need-loop-again Inv-loop μ-loop
@@ -81,7 +81,7 @@ returns-3 : tie.Need-returns-3 Inv-loop μ-loop
 returns-3 c =
     let at = c .before in
     let a = at .before .before .before .before .args in
-    repeats-over (a .q) (leavesAt (a .t .now) (a .rows)) (a .s .now) (at .loop .number) (a .most) (drop (at .loop .start) (a .s .now)) (at .loop .found)
+    repeats-over (a .q) (leavesAt (a .table .now) (a .rows)) (a .s .now) (at .loop .number) (a .most) (drop (at .loop .start) (a .s .now)) (at .loop .found)
     (at .before .before .before .before .pre .0) (c .loop-test .left) (at .loop .inv .1 .1)
 
 pub read-field-spec : {M : Type 1} → statement M

@@ -3,6 +3,7 @@ use borrow.Author.Needs.{needs}
 use Prim.Native.Nat.{_+_, _-_}
 use mathlib.Core.Path.{refl}
 use native.Mathlib.Omega.{arith}
+use Rattle.profile.specs.Numbers.{componentColumn, subcomponentColumn}
 use Rattle.leaves.proofs.LeafByLeaf.{Search, search-first, search-none, search-found, search-on}
 use Rattle.leaves.proofs.repetition.missing_leaves.Statement.{statement}
 use Rattle.leaves.proofs.repetition.missing_leaves.Tie as tie
@@ -38,7 +39,7 @@ shared-slice-read-t14 : tie.Need-shared-slice-read-t14 Inv-loop μ-loop
 shared-slice-read-t14 c = omega (arith, c .before .before .before .before .loop .inv .inside, c .before .before .before .loop-test .taken)
 
 cast-t15 : tie.Need-cast-t15 Inv-loop μ-loop
-cast-t15 c = omega (arith, c .shared-slice-known2 .given (c .before .before .before .before .loop .at + 2))
+cast-t15 c = omega (arith, c .shared-slice-known2 .given (c .before .before .before .before .loop .at + componentColumn))
 
 add-t16 : tie.Need-add-t16 Inv-loop μ-loop
 add-t16 c = omega (arith, c .before .before .before .before .loop .inv .inside, c .before .before .before .loop-test .taken)
@@ -50,12 +51,12 @@ shared-slice-read-t19 : tie.Need-shared-slice-read-t19 Inv-loop μ-loop
 shared-slice-read-t19 c = omega (arith, c .before .before .before .before .before .loop .inv .inside, c .before .before .before .before .loop-test .taken)
 
 cast-t20 : tie.Need-cast-t20 Inv-loop μ-loop
-cast-t20 c = omega (arith, c .shared-slice-known3 .given (c .before .before .before .before .before .loop .at + 3))
+cast-t20 c = omega (arith, c .shared-slice-known3 .given (c .before .before .before .before .before .loop .at + subcomponentColumn))
 
 returns : tie.Need-returns Inv-loop μ-loop
 returns c =
     let x = c .before .before in
-    (refl, search-found (x .before .before .before .loop .inv) (x .before .before .loop-test .taken) (x .if1 .taken))
+    record { handed-on = refl; first = search-found (x .before .before .before .loop .inv) (x .before .before .loop-test .taken) (x .if1 .taken) }
 
 add-at : tie.Need-add-at Inv-loop μ-loop
 add-at c = omega (arith, c .before .before .before .loop .inv .inside, c .before .before .loop-test .taken)
@@ -67,7 +68,7 @@ loop-again : tie.Need-loop-again Inv-loop μ-loop
 loop-again c = search-on (c .before .before .before .loop .inv) (c .before .before .loop-test .taken) (c .if1 .left)
 
 returns-2 : tie.Need-returns-2 Inv-loop μ-loop
-returns-2 c = (refl, search-none (c .before .loop .inv) (c .loop-test .left))
+returns-2 c = record { handed-on = refl; first = search-none (c .before .loop .inv) (c .loop-test .left) }
 
 pub missing-leaves-spec : {M : Type 1} → statement M
 missing-leaves-spec =

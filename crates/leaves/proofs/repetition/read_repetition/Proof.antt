@@ -4,6 +4,7 @@ use Prim.Native.Nat.{_+_, _-_}
 use native.Mathlib.Omega.{arith}
 use mathlib.Core.Logic.{⊎-elim}
 use lib.ListN.{getD}
+use Rattle.profile.specs.Numbers.{componentColumn, subcomponentColumn}
 use Rattle.text.proofs.Tests.{not-true}
 use Rattle.cursor.proofs.Moving.{cursor-inside}
 use Rattle.leaves.proofs.LeafByLeaf.{Reading, reading-first, reading-number, reading-reason, reading-missing, reading-broken, reading-judged, reading-passed, reading-none, piece-inside}
@@ -16,11 +17,11 @@ Inv-loop s q t found₀ cursor₀ at₀ end found cursor at = Reading s q t at�
 abbrev μ-loop : tie.MeasureT-loop
 μ-loop s q t found₀ cursor₀ at₀ end found cursor at = end - at
 
-first-far-requires : tie.Need-first-far-requires Inv-loop μ-loop
-first-far-requires c κs = search needs
+first-piece-requires : tie.Need-first-piece-requires Inv-loop μ-loop
+first-piece-requires c κs = search needs
 
 loop-holds : tie.Need-loop-holds Inv-loop μ-loop
-loop-holds c = reading-first (c .before .before .before .pre) (c .first-far .ensures)
+loop-holds c = reading-first (c .before .before .before .pre) (c .first-piece .ensures)
 
 sub-loop : tie.Need-sub-loop Inv-loop μ-loop
 sub-loop c = c .loop .inv .order
@@ -35,7 +36,7 @@ shared-slice-read-number : tie.Need-shared-slice-read-number Inv-loop μ-loop
 shared-slice-read-number c = omega (arith, c .before .before .loop .inv .inside, c .before .loop-test .taken)
 
 cast-number : tie.Need-cast-number Inv-loop μ-loop
-cast-number c = omega (arith, c .shared-slice-known3 .given (c .before .before .loop .at + 2))
+cast-number c = omega (arith, c .shared-slice-known3 .given (c .before .before .loop .at + componentColumn))
 
 missing-leaves-requires : tie.Need-missing-leaves-requires Inv-loop μ-loop
 missing-leaves-requires c κs =
@@ -64,7 +65,7 @@ shared-slice-read-sub : tie.Need-shared-slice-read-sub Inv-loop μ-loop
 shared-slice-read-sub c = omega (arith, c .before .before .before .before .before .before .loop .inv .inside, c .before .before .before .before .before .loop-test .taken)
 
 cast-sub : tie.Need-cast-sub Inv-loop μ-loop
-cast-sub c = omega (arith, c .shared-slice-known4 .given (c .before .before .before .before .before .before .loop .at + 3))
+cast-sub c = omega (arith, c .shared-slice-known4 .given (c .before .before .before .before .before .before .loop .at + subcomponentColumn))
 
 advance-requires : tie.Need-advance-requires Inv-loop μ-loop
 advance-requires c κs =
@@ -88,8 +89,8 @@ sub-leaf-reason c =
     let p = c .before .before .before in
     let d = p .before .before in
     let i = d .before .before .before .before .before .before in
-    let t = i .before .before .before .before .before .args .t .now in
-    piece-inside (getD t (i .before .loop .at + 3) 0) _ _ (p .piece .ensures) .0
+    let t = i .before .before .before .before .before .args .table .now in
+    piece-inside (getD t (i .before .loop .at + subcomponentColumn) 0) _ _ (p .piece .ensures) .0
 
 part-leaf-reason-start : tie.Need-part-leaf-reason-start Inv-loop μ-loop
 part-leaf-reason-start c = sub-leaf-reason c
@@ -99,8 +100,8 @@ part-leaf-reason-end c =
     let p = c .before .before .before in
     let d = p .before .before in
     let i = d .before .before .before .before .before .before in
-    let t = i .before .before .before .before .before .args .t .now in
-    piece-inside (getD t (i .before .loop .at + 3) 0) _ _ (p .piece .ensures) .1
+    let t = i .before .before .before .before .before .args .table .now in
+    piece-inside (getD t (i .before .loop .at + subcomponentColumn) 0) _ _ (p .piece .ensures) .1
 
 leaf-reason-requires : tie.Need-leaf-reason-requires Inv-loop μ-loop
 leaf-reason-requires c κs =
@@ -134,7 +135,7 @@ read-repetition-spec =
     (tie.spec
     Inv-loop
     μ-loop
-    first-far-requires
+    first-piece-requires
     loop-holds
     sub-loop
     add-number

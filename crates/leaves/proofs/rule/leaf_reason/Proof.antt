@@ -6,6 +6,7 @@ use borrow.Author.Needs.{needs}
 use borrow.Author.Tests.{not-false}
 use native.Mathlib.Omega.{arith}
 use Prim.Native.Nat.{_+_}
+use Rattle.profile.specs.Numbers.{limitColumn}
 use Rattle.leaves.proofs.LeafRule.{rule-missing, rule-empty, rule-long, rule-escape, rule-type, rule-list, rule-good}
 use Rattle.leaves.proofs.rule.leaf_reason.Statement.{statement}
 use Rattle.leaves.proofs.rule.leaf_reason.Tie as tie
@@ -14,31 +15,31 @@ returns : tie.Need-returns
 returns c =
     let x = c .before .before in
     let a = x .before .before .before .args in
-    rule-missing (a .q) (a .t .now) (a .at) (a .s .now) (x .if1 .taken) (c .if2 .taken)
+    rule-missing (a .q) (a .table .now) (a .at) (a .s .now) (x .if1 .taken) (c .if2 .taken)
 
 returns-2 : tie.Need-returns-2
 returns-2 c =
     let x = c .before .before in
     let a = x .before .before .before .args in
-    rule-empty (a .q) (a .t .now) (a .at) (a .s .now) (x .if1 .taken) (c .if2 .left)
+    rule-empty (a .q) (a .table .now) (a .at) (a .s .now) (x .if1 .taken) (c .if2 .left)
 
 cast-if3 : tie.Need-cast-if3
 cast-if3 c =
     let a = c .before .before .before .before .args in
-    omega (arith, c .shared-slice-known4 .given (a .at + 8))
+    omega (arith, c .shared-slice-known4 .given (a .at + limitColumn))
 
 returns-3 : tie.Need-returns-3
 returns-3 c =
     let x = c .before .before in
     let a = x .before .before .before .args in
-    rule-long (a .q) (a .t .now) (a .at) (a .s .now) (x .if1 .left) (c .if3 .taken)
+    rule-long (a .q) (a .table .now) (a .at) (a .s .now) (x .if1 .left) (c .if3 .taken)
 
 returns-4 : tie.Need-returns-4
 returns-4 c =
     let y = c .before .before .before in
     let x = y .before .before in
     let a = x .before .before .before .args in
-    rule-escape (a .q) (a .t .now) (a .at) (a .s .now) (x .if1 .left) (y .if3 .left) _ (c .before .bad-escape .ensures) (c .if5 .taken)
+    rule-escape (a .q) (a .table .now) (a .at) (a .s .now) (x .if1 .left) (y .if3 .left) _ (c .before .bad-escape .ensures) (c .if5 .taken)
 
 returns-5 : tie.Need-returns-5
 returns-5 c =
@@ -48,7 +49,7 @@ returns-5 c =
     let o = x .before .before .before in
     let a = o .args in
     let good = ⊎-elim (λ w. sym (w .1 .ensures) ∙ w .2 .left) (λ w. o .pre .1 .1 (not-false _ (w .left))) (z .if4 .came) in
-    rule-type (a .q) (a .t .now) (a .at) (a .s .now) (x .if1 .left) (y .if3 .left) false (sym good) refl _ (c .before .is-of-type .ensures) (c .if6 .taken)
+    rule-type (a .q) (a .table .now) (a .at) (a .s .now) (x .if1 .left) (y .if3 .left) false (sym good) refl _ (c .before .is-of-type .ensures) (c .if6 .taken)
 
 returns-6 : tie.Need-returns-6
 returns-6 c =
@@ -60,7 +61,7 @@ returns-6 c =
     let o = x .before .before .before in
     let a = o .args in
     let good = ⊎-elim (λ w. sym (w .1 .ensures) ∙ w .2 .left) (λ w. o .pre .1 .1 (not-false _ (w .left))) (z .if4 .came) in
-    rule-list (a .q) (a .t .now) (a .at) (a .s .now) (x .if1 .left) (y .if3 .left) false (sym good) refl
+    rule-list (a .q) (a .table .now) (a .at) (a .s .now) (x .if1 .left) (y .if3 .left) false (sym good) refl
     _ (w .before .is-of-type .ensures) (w .if6 .left) _ (v .before .is-in-list .ensures) (v .if7 .taken) (o .pre .1 .0 .0)
 
 returns-7 : tie.Need-returns-7
@@ -72,7 +73,7 @@ returns-7 c =
     let o = x .before .before .before in
     let a = o .args in
     let good = ⊎-elim (λ w. sym (w .1 .ensures) ∙ w .2 .left) (λ w. o .pre .1 .1 (not-false _ (w .left))) (z .if4 .came) in
-    rule-good (a .q) (a .t .now) (a .at) (a .s .now) (x .if1 .left) (y .if3 .left) false (sym good) refl
+    rule-good (a .q) (a .table .now) (a .at) (a .s .now) (x .if1 .left) (y .if3 .left) false (sym good) refl
     _ (w .before .is-of-type .ensures) (w .if6 .left) _ (c .before .is-in-list .ensures) (c .if7 .left)
 
 pub leaf-reason-spec : {M : Type 1} → statement M

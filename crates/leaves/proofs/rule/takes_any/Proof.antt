@@ -6,21 +6,22 @@ use lib.ListN.{getD}
 use lib.Dec.{eqb, ltb, leb}
 use borrow.Author.Needs.{needs}
 use borrow.Author.Tests.{eqb-true, ltb-true, leb-true}
+use Rattle.profile.specs.Numbers.{limitColumn, listColumn, typeColumn}
 use Rattle.text.proofs.Tests.{both}
 use Rattle.leaves.proofs.LeafRule.{rule-any}
 use Rattle.leaves.proofs.rule.takes_any.Statement.{statement}
 use Rattle.leaves.proofs.rule.takes_any.Tie as tie
 
 cast-result : tie.Need-cast-result
-cast-result c = omega (arith, c .shared-slice-known .given (c .before .args .at + 8))
+cast-result c = omega (arith, c .shared-slice-known .given (c .before .args .at + limitColumn))
 
 returns : tie.Need-returns
 returns c = λ e q s n good p.
     let a = c .before .before .before .args in
-    let t = a .t .now in
-    let type = getD t (a .at + 6) 0 in
-    let list = getD t (a .at + 9) 0 in
-    let most = getD t (a .at + 8) 0 in
+    let t = a .table .now in
+    let type = getD t (a .at + typeColumn) 0 in
+    let list = getD t (a .at + listColumn) 0 in
+    let most = getD t (a .at + limitColumn) 0 in
     let x = both (ltb 0 (a .n)) (leb (a .n) most && (ltb 4 type && eqb list 0)) e in
     let y = both (leb (a .n) most) (ltb 4 type && eqb list 0) (x .1) in
     let z = both (ltb 4 type) (eqb list 0) (y .1) in

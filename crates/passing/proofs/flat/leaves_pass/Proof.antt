@@ -6,22 +6,23 @@ use native.Mathlib.Omega.{arith}
 use borrow.Author.Needs.{needs}
 use borrow.Author.Tests.{eqb-true, not-false}
 use lib.Dec.{eqb}
+use Rattle.profile.specs.Numbers.{componentColumn}
 use Rattle.checks.specs.Place.{place}
-use Rattle.fields.specs.Judged.{passedOnce}
+use Rattle.passing.specs.Flat.{passedOnce}
 use Rattle.leaves.proofs.Breaks.{told-none}
 use Rattle.text.specs.Bytes.{within}
 use Rattle.text.proofs.Tests.{not-true, both}
 use Rattle.cursor.proofs.Moving.{cursor-inside}
 use Rattle.leaves.proofs.LeafByLeaf.{Reading, reading-first, reading-number, reading-reason, reading-missing, reading-none}
-use Rattle.fields.proofs.FlatField.{flat-good, flat-on}
-use Rattle.fields.proofs.flat.leaves_pass.Statement.{statement}
-use Rattle.fields.proofs.flat.leaves_pass.Tie as tie
+use Rattle.passing.proofs.FlatField.{flat-good, flat-on}
+use Rattle.passing.proofs.flat.leaves_pass.Statement.{statement}
+use Rattle.passing.proofs.flat.leaves_pass.Tie as tie
 
 abbrev Inv-loop : tie.InvT-loop
-Inv-loop s q t filled₀ cursor₀ at₀ end filled cursor at = Reading s q t at₀ end (record { filled = filled; reason = 0; component = 0; subcomponent = 0 }) cursor at
+Inv-loop s q table filled₀ cursor₀ at₀ end filled cursor at = Reading s q table at₀ end (record { filled = filled; reason = 0; component = 0; subcomponent = 0 }) cursor at
 
 abbrev μ-loop : tie.MeasureT-loop
-μ-loop s q t filled₀ cursor₀ at₀ end filled cursor at = end - at
+μ-loop s q table filled₀ cursor₀ at₀ end filled cursor at = end - at
 
 loop-holds : tie.Need-loop-holds Inv-loop μ-loop
 loop-holds c = reading-first (c .before .before .before .pre .0) (c .first-piece .ensures)
@@ -36,7 +37,7 @@ shared-slice-read-number : tie.Need-shared-slice-read-number Inv-loop μ-loop
 shared-slice-read-number c = omega (arith, c .before .before .loop .inv .inside, c .before .loop-test .taken)
 
 cast-number : tie.Need-cast-number Inv-loop μ-loop
-cast-number c = omega (arith, c .shared-slice-known3 .given (c .before .before .loop .at + 2))
+cast-number c = omega (arith, c .shared-slice-known3 .given (c .before .before .loop .at + componentColumn))
 
 missing-leaves-requires : tie.Need-missing-leaves-requires Inv-loop μ-loop
 missing-leaves-requires c κs =
@@ -49,11 +50,13 @@ returns c = λ e.
     let x = k .before in
     let i = x .before .before .before .before in
     let b = both (k .missing-leaves .result .filled) (eqb (k .missing-leaves .result .reason) 0) e in
-    reading-missing (i .before .loop .inv) (i .loop-test .taken) (x .if1 .taken) refl passedOnce (
-      sym (b .0) ∙ k .missing-leaves .ensures .0,
-      λ p n o f j. sym (told-none (place n o f j (k .missing-leaves .result .component) (k .missing-leaves .result .subcomponent)) (k .missing-leaves .result .reason) (eqb-true _ 0 (b .1)))
-          ∙ k .missing-leaves .ensures .1 p n o f j,
-    )
+    let m = k .missing-leaves .result in
+    let h = k .missing-leaves .ensures in
+    reading-missing (i .before .loop .inv) (i .loop-test .taken) (x .if1 .taken) refl passedOnce
+    (record {
+      handed-on = sym (b .0) ∙ h .handed-on;
+      first = λ p n o f j. sym (told-none (place n o f j (m .component) (m .subcomponent)) (m .reason) (eqb-true _ 0 (b .1))) ∙ h .first p n o f j;
+    })
 
 add-if2 : tie.Need-add-if2 Inv-loop μ-loop
 add-if2 c =

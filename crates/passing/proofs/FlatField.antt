@@ -8,6 +8,7 @@ use lib.ListN.{length, getD, drop}
 use lib.Seq.{take-all}
 use lib.Dec.{eqb, ltb}
 use borrow.Author.Tests.{not-true}
+use Rattle.profile.specs.Numbers.{componentColumn, rowSize, subcomponentColumn}
 use Rattle.text.specs.Bytes.{Text, every, within}
 use Rattle.escape.specs.Escape.{badEscape}
 use Rattle.escape.specs.Step.{isOther}
@@ -29,11 +30,12 @@ use Rattle.leaves.specs.declared.repetition.ReadRepetition.{ReadRepetition}
 use Rattle.checks.specs.Place.{Place, place}
 use Rattle.checks.specs.Fault.{leafChecks, firstBroken}
 use Rattle.leaves.specs.Judged.{told, ReadsRepetition}
-use Rattle.fields.specs.Judged.{isPlain, isFlat, passed, passedOnce, ReadsField}
+use Rattle.fields.specs.Judged.{ReadsField}
+use Rattle.passing.specs.Flat.{isPlain, isFlat, passed, passedOnce}
 use Rattle.leaves.proofs.LeafByLeaf.{Left, Reading, reading-judged}
 use Rattle.checks.proofs.Filled.{none-filled}
 use Rattle.leaves.proofs.Breaks.{told-none}
 use Rattle.fields.proofs.Repeats.{repeats-first, repeats-read, repeats-last}
 
 -- parts of a flat text are flat
 module _ (q : Marks) where
@@ -46,7 +48,7 @@ module _ (q : Marks) where
     pub subcomponent : Free (q .subcomponent) x
     pub escape : every (isOther (q .escape)) x ≡ true
 
-  flat : (x : Text) → isFlat q x ≡ true → Flat x
+  pub flat : (x : Text) → isFlat q x ≡ true → Flat x
   unfolding every
   flat [] e = record { repetition = tt; subcomponent = tt; escape = refl }
   flat (b ∷ x) e =
@@ -80,21 +82,21 @@ forget {found = found} h e =
     }
 
 -- WHERE THE READING STANDS, a leaf further: nothing is broken
-module _ {s : Text} {q : Marks} {t : List ℕ} {first end : ℕ} {filled : Bool} {c : Cursor} {at : ℕ}
-    (w : Reading s q t first end (record { filled = filled; reason = 0; component = 0; subcomponent = 0 }) c at) (more : 11 ≤ end - at)
-    (clean : isFlat q s ≡ true) (sub : getD t (at + 3) 0 ≡ 1)
-    {d : Cursor} (moved : IsPiece (q .component) s d × (d .number ≡ getD t (at + 2) 0)) where
+module _ {s : Text} {q : Marks} {table : List ℕ} {first end : ℕ} {filled : Bool} {c : Cursor} {at : ℕ}
+    (w : Reading s q table first end (record { filled = filled; reason = 0; component = 0; subcomponent = 0 }) c at) (more : rowSize ≤ end - at)
+    (clean : isFlat q s ≡ true) (sub : getD table (at + subcomponentColumn) 0 ≡ 1)
+    {d : Cursor} (moved : IsPiece (q .component) s d × (d .number ≡ getD table (at + componentColumn) 0)) where
   abbrev text : Text
   text = within (d .start) (d .end) s
 
   pub flat-good : badEscape q text ≡ false
   flat-good = flat-plain q text (flat-within q (d .start) (d .end) s clean)
 
-  found-at : span 0 text ≡ span (start (q .subcomponent) (getD t (at + 3) 0) text) (piece (getD t (at + 3) 0) (split (q .subcomponent) text))
+  found-at : span 0 text ≡ span (start (q .subcomponent) (getD table (at + subcomponentColumn) 0) text) (piece (getD table (at + subcomponentColumn) 0) (split (q .subcomponent) text))
   found-at = rw sub (flat-leaf q text (flat-within q (d .start) (d .end) s clean))
 
-  pub flat-on : {r : ℕ} → ((p : Place) → told p r ≡ firstBroken (leafChecks q p (row.leafOf (drop at t)) text)) → r ≡ 0
-      → Reading s q t first end (record { filled = filled || ltb 0 (length text); reason = 0; component = 0; subcomponent = 0 }) d (at + 11)
+  pub flat-on : {r : ℕ} → ((p : Place) → told p r ≡ firstBroken (leafChecks q p (row.leafOf (drop at table)) text)) → r ≡ 0
+      → Reading s q table first end (record { filled = filled || ltb 0 (length text); reason = 0; component = 0; subcomponent = 0 }) d (at + rowSize)
   flat-on {r} g e =
       let h = reading-judged w more moved {p = span 0 text} found-at refl {r = r} (λ p. rw (whole-within text) (g p)) in
       record {

@@ -1,0 +1,3 @@
+pub mod FlatField
+pub mod Sure
+pub mod Bare
