@@ -1,11 +1,13 @@
 -- The verdict is made of where reading stopped.
-use mathlib.Core.Path.{_≡_, sym, ap, _∙_}
+use mathlib.Core.Path.{_≡_, refl, sym, ap, _∙_}
 use Prim.Native.Nat.{ℕ, suc, _+_}
 use native.Mathlib.Numerals.{add-one}
+use mathlib.Core.Bool.{Bool, true, false}
 use mathlib.Core.List.{List, [], _∷_}
 use lib.ListN.{getD}
+use lib.Dec.{eqb}
 use borrow.Author.Tests.{eq-eqb, ne-eqb}
-use Rattle.text.specs.Bytes.{Text, within}
+use Rattle.text.specs.Bytes.{Text, pick, within}
 use Rattle.text.specs.Answer.{given}
 use Rattle.text.specs.declared.marks.Marks.{Marks}
 use Rattle.text.specs.Marks.{marksOf}
@@ -19,7 +21,7 @@ use Rattle.checks.specs.Fault.{accepted, fault}
 use Rattle.reader.specs.Told.{verdictOf}
 use Rattle.segments.specs.Judged.{toldAt, ReadsSegment}
 use Rattle.listing.specs.Listing.{nameAt, countBefore, HasNumber, Here}
-use Rattle.walk.specs.Judged.{numberAt, haltVerdict}
+use Rattle.walk.specs.Judged.{numberAt, outOfPlace, mayNotEnd, fieldBroken, haltVerdict}
 use Rattle.walk.proofs.Walking.{named-there, named-inside, three-bytes}
 
 -- the number of the name that stands there
@@ -31,31 +33,39 @@ number-there m start end k h e =
     ∙ sym e in
     (a, rw (← a) (h .number .1))
 
-module _ (t : List ℕ) (m : Text) (h : Halt) where
+-- the reason of a segment itself, and the verdict
+own-reason : (a b : Bool) (n : Text) (o : ℕ) → let p = place n o 0 0 0 0 in
+    toldAt n o (record { reason = pick a 1 (pick b 2 0); field = 0; repetition = 0; component = 0; subcomponent = 0 })
+    ≡ pick a (fault p 1) (pick b (fault p 2) accepted)
+own-reason true b n o = refl
+own-reason false true n o = refl
+own-reason false false n o = refl
+
+module _ (table : List ℕ) (m : Text) (h : Halt) where
   abbrev x : Text
   x = name (within (h .start) (h .end) m)
 
   abbrev o : ℕ
   o = suc (countBefore m (h .start) x)
 
-  -- what is found there tells it
-  abbrev pub Tells : Finding → Type 0
-  Tells r = toldAt x o r ≡ haltVerdict (tableOf t) m h
+  -- what is found there finds it
+  abbrev pub Finds : Finding → Type 0
+  Finds r = toldAt x o r ≡ haltVerdict (tableOf table) m h
 
-  pub tells-again : h .reason ≡ 3 → (q : Marks) → q ≡ marksOf m → (f r : Finding) → ReadsSegment q (tableOf t) (within (h .start) (h .end) m) f → r ≡ f → Tells r
-  tells-again e q is f r read same = rw (same, e, ← is) (read x o)
+  pub finds-again : h .why ≡ fieldBroken → (q : Marks) → q ≡ marksOf m → (f r : Finding) → ReadsSegment q (tableOf table) (within (h .start) (h .end) m) f → r ≡ f → Finds r
+  finds-again e q is f r read same = rw (same, e, ← is) (read x o)
 
-  pub tells-reason : (h .reason ≡ 3 → ⊥) → (r : Finding)
-      → r ≡ record { reason = h .reason; field = 0; repetition = 0; component = 0; subcomponent = 0 } → Tells r
-  tells-reason n r same = rw (same, ne-eqb (h .reason) 3 n)
+  pub finds-reason : (h .why ≡ fieldBroken → ⊥) → (a : ℕ) → a ≡ pick (eqb (h .why) outOfPlace) 1 (pick (eqb (h .why) mayNotEnd) 2 0) → (r : Finding)
+      → r ≡ record { reason = a; field = 0; repetition = 0; component = 0; subcomponent = 0 } → Finds r
+  finds-reason n a e r same = rw (same, e, ne-eqb (h .why) fieldBroken n) (own-reason (eqb (h .why) outOfPlace) (eqb (h .why) mayNotEnd) x o)
 
-  module _ (r : Finding) (tells : Tells r) where
-    pub halted-good : r .reason ≡ 0 → given accepted ≡ given (haltVerdict (tableOf t) m h)
-    halted-good e = rw (← tells, eq-eqb (r .reason) 0 e)
+  module _ (r : Finding) (finds : Finds r) where
+    pub halted-good : r .reason ≡ 0 → given accepted ≡ given (haltVerdict (tableOf table) m h)
+    halted-good e = rw (← finds, eq-eqb (r .reason) 0 e)
 
     pub halted-fault : (r .reason ≡ 0 → ⊥) → Here m (h .start) (h .end) (numberAt m (h .start) (h .end)) → (a : ℕ) (v : code.Verdict)
         → a ≡ countBefore m (h .start) (nameAt m (h .start)) + 1
         → verdictOf v ≡ given (fault (place (nameAt m (h .start)) a (r .field) (r .repetition) (r .component) (r .subcomponent)) (r .reason))
-        → verdictOf v ≡ given (haltVerdict (tableOf t) m h)
+        → verdictOf v ≡ given (haltVerdict (tableOf table) m h)
     halted-fault n here a v e f =
-        f ∙ rw (e, named-there m (h .start) (h .end) (numberAt m (h .start) (h .end)) here, add-one) (rw (← tells, ne-eqb (r .reason) 0 n))
+        f ∙ rw (e, named-there m (h .start) (h .end) (numberAt m (h .start) (h .end)) here, add-one) (rw (← finds, ne-eqb (r .reason) 0 n))
