@@ -1,13 +1,11 @@
 -- The verdict is made of where reading stopped.
-use mathlib.Core.Path.{_≡_, refl, sym, ap, _∙_}
+use mathlib.Core.Path.{_≡_, sym, ap, _∙_}
 use Prim.Native.Nat.{ℕ, suc, _+_}
 use native.Mathlib.Numerals.{add-one}
-use mathlib.Core.Bool.{Bool, true, false}
 use mathlib.Core.List.{List, [], _∷_}
 use lib.ListN.{getD}
-use lib.Dec.{eqb}
 use borrow.Author.Tests.{eq-eqb, ne-eqb}
-use Rattle.text.specs.Bytes.{Text, pick, within}
+use Rattle.text.specs.Bytes.{Text, within}
 use Rattle.text.specs.Answer.{given}
 use Rattle.text.specs.declared.marks.Marks.{Marks}
 use Rattle.text.specs.Marks.{marksOf}
@@ -21,7 +19,7 @@ use Rattle.checks.specs.Fault.{accepted, fault}
 use Rattle.reader.specs.Told.{verdictOf}
 use Rattle.segments.specs.Judged.{toldAt, ReadsSegment}
 use Rattle.listing.specs.Listing.{nameAt, countBefore, HasNumber, Here}
-use Rattle.walk.specs.Judged.{numberAt, outOfPlace, mayNotEnd, fieldBroken, haltVerdict}
+use Rattle.walk.specs.Judged.{numberAt, fieldBroken, segmentReason, haltVerdict}
 use Rattle.walk.proofs.Walking.{named-there, named-inside, three-bytes}
 
 -- the number of the name that stands there
@@ -33,14 +31,6 @@ number-there m start end k h e =
     ∙ sym e in
     (a, rw (← a) (h .number .1))
 
--- the reason of a segment itself, and the verdict
-own-reason : (a b : Bool) (n : Text) (o : ℕ) → let p = place n o 0 0 0 0 in
-    toldAt n o (record { reason = pick a 1 (pick b 2 0); field = 0; repetition = 0; component = 0; subcomponent = 0 })
-    ≡ pick a (fault p 1) (pick b (fault p 2) accepted)
-own-reason true b n o = refl
-own-reason false true n o = refl
-own-reason false false n o = refl
-
 module _ (table : List ℕ) (m : Text) (h : Halt) where
   abbrev x : Text
   x = name (within (h .start) (h .end) m)
@@ -48,24 +38,25 @@ module _ (table : List ℕ) (m : Text) (h : Halt) where
   abbrev o : ℕ
   o = suc (countBefore m (h .start) x)
 
-  -- what is found there finds it
-  abbrev pub Finds : Finding → Type 0
-  Finds r = toldAt x o r ≡ haltVerdict (tableOf table) m h
+  -- what is found, told of that segment, is the verdict where reading stopped
+  abbrev pub IsVerdict : Finding → Type 0
+  IsVerdict r = toldAt x o r ≡ haltVerdict (tableOf table) m h
 
-  pub finds-again : h .why ≡ fieldBroken → (q : Marks) → q ≡ marksOf m → (f r : Finding) → ReadsSegment q (tableOf table) (within (h .start) (h .end) m) f → r ≡ f → Finds r
-  finds-again e q is f r read same = rw (same, e, ← is) (read x o)
+  pub field-verdict : h .why ≡ fieldBroken → (q : Marks) → q ≡ marksOf m → (f r : Finding) → ReadsSegment q (tableOf table) (within (h .start) (h .end) m) f → r ≡ f
+      → IsVerdict r
+  field-verdict e q is f r read same = rw (same, e, ← is) (read x o)
 
-  pub finds-reason : (h .why ≡ fieldBroken → ⊥) → (a : ℕ) → a ≡ pick (eqb (h .why) outOfPlace) 1 (pick (eqb (h .why) mayNotEnd) 2 0) → (r : Finding)
-      → r ≡ record { reason = a; field = 0; repetition = 0; component = 0; subcomponent = 0 } → Finds r
-  finds-reason n a e r same = rw (same, e, ne-eqb (h .why) fieldBroken n) (own-reason (eqb (h .why) outOfPlace) (eqb (h .why) mayNotEnd) x o)
+  pub segment-verdict : (h .why ≡ fieldBroken → ⊥) → (a : ℕ) → a ≡ segmentReason (h .why) → (r : Finding)
+      → r ≡ record { reason = a; field = 0; repetition = 0; component = 0; subcomponent = 0 } → IsVerdict r
+  segment-verdict n a e r same = rw (same, e, ne-eqb (h .why) fieldBroken n)
 
-  module _ (r : Finding) (finds : Finds r) where
+  module _ (r : Finding) (is : IsVerdict r) where
     pub halted-good : r .reason ≡ 0 → given accepted ≡ given (haltVerdict (tableOf table) m h)
-    halted-good e = rw (← finds, eq-eqb (r .reason) 0 e)
+    halted-good e = rw (← is, eq-eqb (r .reason) 0 e)
 
     pub halted-fault : (r .reason ≡ 0 → ⊥) → Here m (h .start) (h .end) (numberAt m (h .start) (h .end)) → (a : ℕ) (v : code.Verdict)
         → a ≡ countBefore m (h .start) (nameAt m (h .start)) + 1
         → verdictOf v ≡ given (fault (place (nameAt m (h .start)) a (r .field) (r .repetition) (r .component) (r .subcomponent)) (r .reason))
         → verdictOf v ≡ given (haltVerdict (tableOf table) m h)
     halted-fault n here a v e f =
-        f ∙ rw (e, named-there m (h .start) (h .end) (numberAt m (h .start) (h .end)) here, add-one) (rw (← finds, ne-eqb (r .reason) 0 n))
+        f ∙ rw (e, named-there m (h .start) (h .end) (numberAt m (h .start) (h .end)) here, add-one) (rw (← is, ne-eqb (r .reason) 0 n))

@@ -2,10 +2,8 @@
 ghost use mathlib.Core.Path.{_≡_};
 ghost use mathlib.Core.Bool.{true};
 ghost use Prim.Native.Nat.{_+_, _≤_};
-ghost use lib.Dec.{eqb};
 ghost use lib.ListN.{length};
 ghost use Rattle.text.specs.Answer.{given};
-ghost use Rattle.text.specs.Bytes.{pick};
 ghost use Rattle.frame.specs.Frame.{framed};
 ghost use Rattle.profile.specs.Numbers.{tableOf};
 ghost use Rattle.profile.specs.Order.{Sound};
@@ -15,7 +13,7 @@ ghost use Rattle.checks.specs.Place.{place};
 ghost use Rattle.reader.specs.Promise.{Judges};
 ghost use Rattle.reader.specs.Told.{verdictOf};
 ghost use Rattle.listing.specs.Listing.{nameAt, Here};
-ghost use Rattle.walk.specs.Judged.{outOfPlace, mayNotEnd, haltVerdict, numberAt};
+ghost use Rattle.walk.specs.Judged.{segmentReason, haltVerdict, numberAt};
 use crate::Fault;
 use crate::Place;
 use crate::Verdict;
@@ -57,7 +55,7 @@ fn fault_at(m: &[u8], start: usize, occurrence: u64, r: Finding) -> Verdict
 
 // The reason that a segment itself gives: 1 where it is out of place, 2 where the message may not end behind it, else none.
 fn segment_reason(why: u64) -> u8
-    ensures { λ r. ⌜ r ≡ pick (eqb why outOfPlace) 1 (pick (eqb why mayNotEnd) 2 0) ⌝ }
+    ensures { λ r. ⌜ r ≡ segmentReason why ⌝ }
 {
     match why {
         OUT_OF_PLACE => 1,

@@ -154,10 +154,6 @@ onward-as T m start end r w e x = subst (λ (o : Onward). OnwardIs T m start end
 pub answered : {T : Table} {m : Text} {start end : ℕ} {h : Halt} (r : Onward) → OnwardIs T m start end r → r ≡ onward.Halt h → Walks T m start end h
 answered {T} {m} {start} {end} {h} r x e = onward-as T m start end r (onward.Halt h) e x
 
-next-there : {T : Table} {m : Text} {start end start' end' j : ℕ} (r : Onward) → OnwardIs T m start end r → r ≡ onward.Segment start' end' j
-    → Behind T m start end start' end' j
-next-there {T} {m} {start} {end} {start'} {end'} {j} r x e = onward-as T m start end r (onward.Segment start' end' j) e x
-
 -- by the number that its name has
 here-own : (m : Text) (start end k : ℕ) → Here m start end k → Here m start end (numberAt m start end)
 here-own m start end k h = subst (λ (j : ℕ). Here m start end j) (sym (h .number .0)) h
@@ -242,31 +238,40 @@ module _ {m : Text} {start end k : ℕ} where
   pub fitting : {T : Table} {h : Halt} (fits : ℕ → Bool) (i : ℕ) → k ≡ i → fits i ≡ true → Walks T m start end h → WalksIf (fits k) T m start end h
   fitting fits i e f w = rw (e, f) w
 
-  module _ {table : List ℕ} where
-    -- what the reader of number i requires
-    pub asks : (i : ℕ) → k ≡ i → Sound table × Here m start end k → Sound table × Here m start end i
-    asks i e pre = (pre .0, subst (λ (x : ℕ). Here m start end x) e (pre .1))
+  -- what the reader of number i requires
+  pub asks : {table : List ℕ} (i : ℕ) → k ≡ i → Sound table × Here m start end k → Sound table × Here m start end i
+  asks i e pre = (pre .0, subst (λ (x : ℕ). Here m start end x) e (pre .1))
 
-  module _ {table : List ℕ} {left : ℕ} where
-    -- behind a segment fewer bytes are left than from it on
-    pub to-reader : (i : ℕ) → k ≡ i → (length m - start ≡ left) × (Sound table × Here m start end k) → (length m - end < left) × (Sound table × Here m start end i)
-    to-reader i e pre = (omega (arith, named-long m start end k (pre .1 .1), pre .1 .1 .high), asks i e (pre .1))
+  -- and that behind a segment fewer bytes are left than from it on
+  pub to-reader : {table : List ℕ} {left : ℕ} (i : ℕ) → k ≡ i → (length m - start ≡ left) × (Sound table × Here m start end k)
+      → (length m - end < left) × (Sound table × Here m start end i)
+  to-reader i e pre = (omega (arith, named-long m start end k (pre .1 .1), pre .1 .1 .high), asks i e (pre .1))
 
-    -- and from the next one on fewer than behind it
-    pub to-next : {start' end' j : ℕ} → (length m - end ≡ left) × (Sound table × Here m start end k) → (r : Onward) → OnwardIs (tableOf table) m start end r
-        → r ≡ onward.Segment start' end' j → (length m - start' < left) × (Sound table × Here m start' end' j)
-    to-next pre r x e = let b = next-there r x e in (omega (arith, pre .0, b .later, pre .1 .1 .high), (pre .1 .0, b .here))
+module _ {table : List ℕ} {m : Text} {start end k start' end' j : ℕ} (pre : Sound table × Here m start end k) (r : Onward)
+    (x : OnwardIs (tableOf table) m start end r) (e : r ≡ onward.Segment start' end' j) where
+  next : Behind (tableOf table) m start end start' end' j
+  next = onward-as (tableOf table) m start end r (onward.Segment start' end' j) e x
+
+  -- from the next one on fewer bytes are left than behind this one
+  pub to-next : {left : ℕ} → length m - end ≡ left → (length m - start' < left) × (Sound table × Here m start' end' j)
+  to-next l = (omega (arith, next .later, pre .1 .high), (pre .0, next .here))
+
+  pub to-next-reader : {left : ℕ} (i : ℕ) → j ≡ i → length m - end ≡ left → (length m - end' < left) × (Sound table × Here m start' end' i)
+  to-next-reader i f l =
+      let n = to-next l in
+      let t = to-reader i f (refl, n .1) in
+      (omega (arith, n .0, t .0), t .1)
 
   -- the walk from the next one on is the walk
-  pub goes-on : {table : List ℕ} {start' end' j : ℕ} {fits : Bool} {h : Halt} → Sound table × Here m start end k → (r : Onward)
-      → OnwardIs (tableOf table) m start end r → r ≡ onward.Segment start' end' j → follows k j ≡ fits → WalksIf fits (tableOf table) m start' end' h
-      → Walks (tableOf table) m start end h
-  goes-on {table} {start'} {end'} {j} pre r x e f w =
-      let b = next-there r x e in
+  pub goes-on : {fits : Bool} {h : Halt} → follows k j ≡ fits → WalksIf fits (tableOf table) m start' end' h → Walks (tableOf table) m start end h
+  goes-on f w =
       record {
         here = w .here;
         same = λ ns last c l.
-            w .same (name (within start end m) ∷ ns) (name (within start end m)) (b .counts ns c)
-            (may-follow table (within start end m) (within start' end' m) k j (pre .1 .number) (b .here .number) ∙ f)
-            ∙ sym (b .same ns last l);
+            w .same (name (within start end m) ∷ ns) (name (within start end m)) (next .counts ns c)
+            (may-follow table (within start end m) (within start' end' m) k j (pre .1 .number) (next .here .number) ∙ f)
+            ∙ sym (next .same ns last l);
       }
+
+  pub goes-out : follows k j ≡ false → Walks (tableOf table) m start end (record { why = outOfPlace; start = start'; end = end' })
+  goes-out f = goes-on f (out (next .here))

@@ -13,7 +13,8 @@ use Rattle.profile.specs.Numbers.{segmentNumber}
 use Rattle.walk.specs.declared.Halt.{Halt}
 use Rattle.checks.specs.Place.{Place, place}
 use Rattle.checks.specs.View.{segmentSeen, listedSegments}
-use Rattle.checks.specs.Fault.{Verdict, accepted, fault, fieldChecks, firstBroken, count, walk}
+use Rattle.checks.specs.Fault.{Verdict, fieldChecks, firstBroken, count, walk}
+use Rattle.leaves.specs.Judged.{told}
 use Rattle.listing.specs.Listing.{countFrom, countBefore, Here}
 
 abbrev pub numberAt : Text → ℕ → ℕ → ℕ
@@ -32,10 +33,13 @@ mayNotEnd = 2
 abbrev pub fieldBroken : ℕ
 fieldBroken = 3
 
--- the verdict, given the segment's own place and the first broken check of its fields
+-- 01's reason where it is the segment itself, and 0 where it is not
+abbrev pub segmentReason : ℕ → ℕ
+segmentReason why = pick (eqb why outOfPlace) 1 (pick (eqb why mayNotEnd) 2 0)
+
+-- the verdict, given the segment's own place and the first broken check of its fields: accepted where nothing is broken
 abbrev pub whyVerdict : ℕ → Place → Verdict → Verdict
-whyVerdict why p own =
-    pick (eqb why fieldBroken) own (pick (eqb why outOfPlace) (fault p 1) (pick (eqb why mayNotEnd) (fault p 2) accepted))
+whyVerdict why p own = pick (eqb why fieldBroken) own (told p (segmentReason why))
 
 -- WHERE READING STOPPED
 abbrev pub haltVerdict : Table → Text → Halt → Verdict

@@ -1,10 +1,10 @@
--- `verdict_at`: what is found where reading stopped finds the verdict.
+-- `verdict_at`: what is found where reading stopped is the verdict.
 use borrow.Author.Needs.{needs}
 use native.Mathlib.Omega.{arith}
 use mathlib.Core.Logic.{⊎-elim}
 use Rattle.walk.specs.Judged.{numberAt}
 use Rattle.walk.proofs.Walking.{named-inside}
-use Rattle.reader.proofs.Halted.{number-there, Finds, finds-again, finds-reason, halted-good, halted-fault}
+use Rattle.reader.proofs.Halted.{number-there, IsVerdict, field-verdict, segment-verdict, halted-good, halted-fault}
 use Rattle.reader.proofs.judging.verdict_at.Statement.{statement}
 use Rattle.reader.proofs.judging.verdict_at.Tie as tie
 
@@ -27,20 +27,20 @@ read-segment-requires c κs =
     let h = b .args .h in
     (b .pre .0, number-there (b .args .m .now) (h .start) (h .end) (n .segment-number .result) (b .pre .1) (n .segment-number .ensures))
 
-finds : (c : tie.Joined1) → let b = c .before .before .before .before .before in Finds (b .args .table .now) (b .args .m .now) (b .args .h) (c .if1 .r)
-finds c =
+is-verdict : (c : tie.Joined1) → let b = c .before .before .before .before .before in IsVerdict (b .args .table .now) (b .args .m .now) (b .args .h) (c .if1 .r)
+is-verdict c =
     let s = c .before .before .segment-reason in
     let b = c .before .before .before .before .before in
     ⊎-elim
-    (λ w. finds-again (b .args .table .now) (b .args .m .now) (b .args .h) (w .0 .taken) (w .6 .result) (w .6 .ensures) (w .7 .result) (c .if1 .r) (w .7 .ensures) (w .8))
-    (λ w. finds-reason (b .args .table .now) (b .args .m .now) (b .args .h) (w .0 .left) (s .result) (s .ensures) (c .if1 .r) (w .1))
+    (λ w. field-verdict (b .args .table .now) (b .args .m .now) (b .args .h) (w .0 .taken) (w .6 .result) (w .6 .ensures) (w .7 .result) (c .if1 .r) (w .7 .ensures) (w .8))
+    (λ w. segment-verdict (b .args .table .now) (b .args .m .now) (b .args .h) (w .0 .left) (s .result) (s .ensures) (c .if1 .r) (w .1))
     (c .if1 .came)
 
 returns : tie.Need-returns
 returns c =
     let j = c .before .before in
     let b = j .before .before .before .before .before in
-    halted-good (b .args .table .now) (b .args .m .now) (b .args .h) (j .if1 .r) (finds j) (c .if2 .taken)
+    halted-good (b .args .table .now) (b .args .m .now) (b .args .h) (j .if1 .r) (is-verdict j) (c .if2 .taken)
 
 occurrence-at-requires : tie.Need-occurrence-at-requires
 occurrence-at-requires c κs =
@@ -59,7 +59,7 @@ returns-2 c =
     let e = c .before .before in
     let j = e .before .before in
     let b = j .before .before .before .before .before in
-    halted-fault (b .args .table .now) (b .args .m .now) (b .args .h) (j .if1 .r) (finds j) (e .if2 .left) (b .pre .1)
+    halted-fault (b .args .table .now) (b .args .m .now) (b .args .h) (j .if1 .r) (is-verdict j) (e .if2 .left) (b .pre .1)
     (c .before .occurrence-at .result) (c .fault-at .result) (c .before .occurrence-at .ensures) (c .fault-at .ensures)
 
 pub verdict-at-spec : {M : Type 1} → statement M
