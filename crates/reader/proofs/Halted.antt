@@ -19,7 +19,7 @@ use Rattle.checks.specs.Fault.{accepted, fault}
 use Rattle.reader.specs.Told.{verdictOf}
 use Rattle.segments.specs.Judged.{toldAt, ReadsSegment}
 use Rattle.listing.specs.Listing.{nameAt, countBefore, HasNumber, Here}
-use Rattle.walk.specs.Judged.{numberAt, haltVerdict}
+use Rattle.walk.specs.Judged.{numberAt, fieldBroken, segmentReason, haltVerdict}
 use Rattle.walk.proofs.Walking.{named-there, named-inside, three-bytes}
 
 -- the number of the name that stands there
@@ -31,31 +31,32 @@ number-there m start end k h e =
     ∙ sym e in
     (a, rw (← a) (h .number .1))
 
-module _ (t : List ℕ) (m : Text) (h : Halt) where
+module _ (table : List ℕ) (m : Text) (h : Halt) where
   abbrev x : Text
   x = name (within (h .start) (h .end) m)
 
   abbrev o : ℕ
   o = suc (countBefore m (h .start) x)
 
-  -- what is found there tells it
-  abbrev pub Tells : Finding → Type 0
-  Tells r = toldAt x o r ≡ haltVerdict (tableOf t) m h
+  -- what is found, told of that segment, is the verdict where reading stopped
+  abbrev pub IsVerdict : Finding → Type 0
+  IsVerdict r = toldAt x o r ≡ haltVerdict (tableOf table) m h
 
-  pub tells-again : h .reason ≡ 3 → (q : Marks) → q ≡ marksOf m → (f r : Finding) → ReadsSegment q (tableOf t) (within (h .start) (h .end) m) f → r ≡ f → Tells r
-  tells-again e q is f r read same = rw (same, e, ← is) (read x o)
+  pub field-verdict : h .why ≡ fieldBroken → (q : Marks) → q ≡ marksOf m → (f r : Finding) → ReadsSegment q (tableOf table) (within (h .start) (h .end) m) f → r ≡ f
+      → IsVerdict r
+  field-verdict e q is f r read same = rw (same, e, ← is) (read x o)
 
-  pub tells-reason : (h .reason ≡ 3 → ⊥) → (r : Finding)
-      → r ≡ record { reason = h .reason; field = 0; repetition = 0; component = 0; subcomponent = 0 } → Tells r
-  tells-reason n r same = rw (same, ne-eqb (h .reason) 3 n)
+  pub segment-verdict : (h .why ≡ fieldBroken → ⊥) → (a : ℕ) → a ≡ segmentReason (h .why) → (r : Finding)
+      → r ≡ record { reason = a; field = 0; repetition = 0; component = 0; subcomponent = 0 } → IsVerdict r
+  segment-verdict n a e r same = rw (same, e, ne-eqb (h .why) fieldBroken n)
 
-  module _ (r : Finding) (tells : Tells r) where
-    pub halted-good : r .reason ≡ 0 → given accepted ≡ given (haltVerdict (tableOf t) m h)
-    halted-good e = rw (← tells, eq-eqb (r .reason) 0 e)
+  module _ (r : Finding) (is : IsVerdict r) where
+    pub halted-good : r .reason ≡ 0 → given accepted ≡ given (haltVerdict (tableOf table) m h)
+    halted-good e = rw (← is, eq-eqb (r .reason) 0 e)
 
     pub halted-fault : (r .reason ≡ 0 → ⊥) → Here m (h .start) (h .end) (numberAt m (h .start) (h .end)) → (a : ℕ) (v : code.Verdict)
         → a ≡ countBefore m (h .start) (nameAt m (h .start)) + 1
         → verdictOf v ≡ given (fault (place (nameAt m (h .start)) a (r .field) (r .repetition) (r .component) (r .subcomponent)) (r .reason))
-        → verdictOf v ≡ given (haltVerdict (tableOf t) m h)
+        → verdictOf v ≡ given (haltVerdict (tableOf table) m h)
     halted-fault n here a v e f =
-        f ∙ rw (e, named-there m (h .start) (h .end) (numberAt m (h .start) (h .end)) here, add-one) (rw (← tells, ne-eqb (r .reason) 0 n))
+        f ∙ rw (e, named-there m (h .start) (h .end) (numberAt m (h .start) (h .end)) here, add-one) (rw (← is, ne-eqb (r .reason) 0 n))

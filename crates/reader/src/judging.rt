@@ -13,7 +13,7 @@ ghost use Rattle.checks.specs.Place.{place};
 ghost use Rattle.reader.specs.Promise.{Judges};
 ghost use Rattle.reader.specs.Told.{verdictOf};
 ghost use Rattle.listing.specs.Listing.{nameAt, Here};
-ghost use Rattle.walk.specs.Judged.{haltVerdict, numberAt};
+ghost use Rattle.walk.specs.Judged.{segmentReason, haltVerdict, numberAt};
 use crate::Fault;
 use crate::Place;
 use crate::Verdict;
@@ -27,7 +27,10 @@ use profile::profile;
 use segments::Finding;
 use segments::read_segment;
 use text::marks_of;
+use walk::FIELD_BROKEN;
 use walk::Halt;
+use walk::MAY_NOT_END;
+use walk::OUT_OF_PLACE;
 use walk::header;
 
 // A fault of the segment that starts there, of that occurrence of its name.
@@ -50,23 +53,34 @@ fn fault_at(m: &[u8], start: usize, occurrence: u64, r: Finding) -> Verdict
     })
 }
 
+// The reason that a segment itself gives: 1 where it is out of place, 2 where the message may not end behind it, else none.
+fn segment_reason(why: u64) -> u8
+    ensures { λ r. ⌜ r ≡ segmentReason why ⌝ }
+{
+    match why {
+        OUT_OF_PLACE => 1,
+        MAY_NOT_END => 2,
+        _ => 0,
+    }
+}
+
 // The verdict where reading stopped: only here is the occurrence counted, and a segment with a broken field read once more for the place.
-fn verdict_at(m: &[u8], t: &[u16], h: Halt) -> Verdict
-    requires { ⌜ Sound (now t) × (Here (now m) (h .start) (h .end) (numberAt (now m) (h .start) (h .end)) × (h .reason ≤ 3)) ⌝ }
-    ensures { λ v. ⌜ verdictOf v ≡ given (haltVerdict (tableOf (now (t .entry))) (now (m .entry)) h) ⌝ }
+fn verdict_at(m: &[u8], table: &[u16], h: Halt) -> Verdict
+    requires { ⌜ Sound (now table) × Here (now m) (h .start) (h .end) (numberAt (now m) (h .start) (h .end)) ⌝ }
+    ensures { λ v. ⌜ verdictOf v ≡ given (haltVerdict (tableOf (now (table .entry))) (now (m .entry)) h) ⌝ }
 {
     let start = h.start;
     let end = h.end;
     let mut r = Finding {
-        reason: h.reason as u8,
+        reason: segment_reason(h.why),
         field: 0,
         repetition: 0,
         component: 0,
         subcomponent: 0,
     };
-    if h.reason == 3 {
+    if h.why == FIELD_BROKEN {
         let number = segment_number(m[start], m[start + 1], m[start + 2]);
-        r = read_segment(&m[start..end], marks_of(m), t, number);
+        r = read_segment(&m[start..end], marks_of(m), table, number);
     }
     if r.reason == 0 {
         return Verdict::Accepted;
@@ -75,9 +89,9 @@ fn verdict_at(m: &[u8], t: &[u16], h: Halt) -> Verdict
 }
 
 // The verdict by a lent table on a message whose frame is good: it begins with the header.
-fn judge_framed(m: &[u8], t: &[u16]) -> Verdict
-    requires { ⌜ Sound (now t) × (framed (now m) ≡ true) ⌝ }
-    ensures { λ r. ⌜ verdictOf r ≡ given (verdict (tableOf (now (t .entry))) (now (m .entry))) ⌝ }
+fn judge_framed(m: &[u8], table: &[u16]) -> Verdict
+    requires { ⌜ Sound (now table) × (framed (now m) ≡ true) ⌝ }
+    ensures { λ r. ⌜ verdictOf r ≡ given (verdict (tableOf (now (table .entry))) (now (m .entry))) ⌝ }
 {
     match next_listed(m, 0) {
         Listed::None => Verdict::Accepted,
@@ -85,7 +99,7 @@ fn judge_framed(m: &[u8], t: &[u16]) -> Verdict
             start,
             end,
             number: _,
-        } => verdict_at(m, t, header(m, t, start, end)),
+        } => verdict_at(m, table, header(m, table, start, end)),
     }
 }
 
@@ -96,9 +110,9 @@ pub fn judge(m: &[u8]) -> Verdict
     match check(m) {
         Framing::Refused(r) => Verdict::Refused(r),
         Framing::Framed => {
-            let table = profile();
-            let t: &[u16] = &table;
-            judge_framed(m, t)
+            let numbers = profile();
+            let table: &[u16] = &numbers;
+            judge_framed(m, table)
         }
     }
 }

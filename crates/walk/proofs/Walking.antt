@@ -3,12 +3,12 @@ use mathlib.Core.Path.{_≡_, refl, sym, ap, subst, _∙_}
 use Prim.Native.Nat.{ℕ, zero, suc, _+_, _-_, _≤_, _<_}
 use native.Mathlib.Nat.{add-zero}
 use native.Mathlib.Omega.{arith}
-use mathlib.Core.Bool.{Bool, true, false, not, _&&_}
+use mathlib.Core.Bool.{Bool, true, false, not, _||_}
 use mathlib.Core.List.{List, [], _∷_, map, flatMap}
 use lib.ListN.{length, getD, take, drop, length-take, length-drop}
 use lib.Seq.{take-take, getD-drop}
-use lib.Dec.{eqb, ltb}
-use borrow.Author.Tests.{eq-eqb, ne-eqb, le-ltb}
+use lib.Dec.{eqb}
+use borrow.Author.Tests.{eq-eqb, ne-eqb}
 use Rattle.text.specs.Bytes.{Text, pick, some, keep, same, within}
 use Rattle.text.specs.declared.marks.Marks.{Marks}
 use Rattle.text.specs.Marks.{marksOf}
@@ -25,10 +25,10 @@ use Rattle.walk.specs.declared.Onward.the-variants as onward
 use Rattle.checks.specs.Place.{Place, place}
 use Rattle.checks.specs.View.{segmentSeen, listedSegments}
 use Rattle.checks.specs.Fault.{Verdict, accepted, fault, Check, fieldChecks, firstBroken, count, walk}
-use Rattle.leaves.specs.Judged.{told}
 use Rattle.segments.specs.Judged.{toldAt, ReadsSegment}
-use Rattle.listing.specs.Listing.{nameAt, countFrom, countBefore, Here, Next, NextIs}
-use Rattle.walk.specs.Judged.{numberAt, walkFrom, Counts, Walks}
+use Rattle.listing.specs.Listing.{nameAt, countFrom, countBefore, HasNumber, Here, Next, NextIs}
+use Rattle.walk.specs.Named.{MSH, PID, NK1, ORC, OBR, OBX, NTE, behindPatient, behindGroup, mayBeLast}
+use Rattle.walk.specs.Judged.{numberAt, nothingBroken, outOfPlace, mayNotEnd, fieldBroken, whyVerdict, walkFrom, Counts, WalksIf, Walks}
 use Rattle.walk.specs.Onward.{Behind, OnwardIs}
 use Rattle.codes.proofs.Numbered.{named-number}
 use Rattle.leaves.proofs.Breaks.{orElse, broken-append}
@@ -47,39 +47,52 @@ seven P a b c d e f g (suc (suc (suc (suc (suc (suc zero)))))) l h = f
 seven P a b c d e f g (suc (suc (suc (suc (suc (suc (suc zero))))))) l h = g
 seven P a b c d e f g (suc (suc (suc (suc (suc (suc (suc (suc k)))))))) l h = absurd (omega arith)
 
+-- behind which the message may end
+pub last-among : (k : ℕ) → OBR ≤ k → k ≤ NTE → mayBeLast k ≡ true
+last-among k l h =
+    seven (λ j. OBR ≤ j → mayBeLast j ≡ true) (λ a. absurd (omega arith)) (λ a. absurd (omega arith)) (λ a. absurd (omega arith)) (λ a. absurd (omega arith))
+    (λ a. refl) (λ a. refl) (λ a. refl) k (omega arith) h l
+
+pub last-not : (k : ℕ) → (k ≡ OBR → ⊥) → (k ≡ OBX → ⊥) → (k ≡ NTE → ⊥) → mayBeLast k ≡ false
+last-not k a b c = rw (ne-eqb k OBR a, ne-eqb k OBX b, ne-eqb k NTE c)
+
 abbrev nameOf : ℕ → Text
 nameOf k = getD segmentNames (k - 1) []
 
--- which number may follow which
+-- which may follow which
 abbrev follows : ℕ → ℕ → Bool
-follows k j = pick (eqb k 1) (eqb j 2) (pick (ltb k 4) (ltb 2 j && ltb j 6) (pick (eqb k 4) (eqb j 5) (ltb 3 j)))
+follows k j =
+    pick (eqb k MSH) (eqb j PID) (pick (eqb k PID || eqb k NK1) (behindPatient j) (pick (eqb k ORC) (eqb j OBR) (behindGroup j)))
 
-module _ (t : List ℕ) where
-  follow-names : (k j : ℕ) → 1 ≤ k → k ≤ 7 → 1 ≤ j → j ≤ 7 → mayFollow (tableOf t) (nameOf k) (nameOf j) ≡ follows k j
+module _ (table : List ℕ) where
+  abbrev Follow : ℕ → ℕ → Type 0
+  Follow k j = mayFollow (tableOf table) (nameOf k) (nameOf j) ≡ follows k j
+
+  follow-names : (k j : ℕ) → 1 ≤ k → k ≤ 7 → 1 ≤ j → j ≤ 7 → Follow k j
   unfolding tableOf some same
   follow-names k j a b =
-      seven (λ x. (y : ℕ) → 1 ≤ y → y ≤ 7 → mayFollow (tableOf t) (nameOf x) (nameOf y) ≡ follows x y)
-      (seven (λ y. mayFollow (tableOf t) (nameOf 1) (nameOf y) ≡ follows 1 y) refl refl refl refl refl refl refl)
-      (seven (λ y. mayFollow (tableOf t) (nameOf 2) (nameOf y) ≡ follows 2 y) refl refl refl refl refl refl refl)
-      (seven (λ y. mayFollow (tableOf t) (nameOf 3) (nameOf y) ≡ follows 3 y) refl refl refl refl refl refl refl)
-      (seven (λ y. mayFollow (tableOf t) (nameOf 4) (nameOf y) ≡ follows 4 y) refl refl refl refl refl refl refl)
-      (seven (λ y. mayFollow (tableOf t) (nameOf 5) (nameOf y) ≡ follows 5 y) refl refl refl refl refl refl refl)
-      (seven (λ y. mayFollow (tableOf t) (nameOf 6) (nameOf y) ≡ follows 6 y) refl refl refl refl refl refl refl)
-      (seven (λ y. mayFollow (tableOf t) (nameOf 7) (nameOf y) ≡ follows 7 y) refl refl refl refl refl refl refl)
+      seven (λ x. (y : ℕ) → 1 ≤ y → y ≤ 7 → Follow x y)
+      (seven (Follow 1) refl refl refl refl refl refl refl)
+      (seven (Follow 2) refl refl refl refl refl refl refl)
+      (seven (Follow 3) refl refl refl refl refl refl refl)
+      (seven (Follow 4) refl refl refl refl refl refl refl)
+      (seven (Follow 5) refl refl refl refl refl refl refl)
+      (seven (Follow 6) refl refl refl refl refl refl refl)
+      (seven (Follow 7) refl refl refl refl refl refl refl)
       k a b j
 
-  end-names : (k : ℕ) → 1 ≤ k → k ≤ 7 → mayEnd (tableOf t) (nameOf k) ≡ ltb 4 k
+  end-names : (k : ℕ) → 1 ≤ k → k ≤ 7 → mayEnd (tableOf table) (nameOf k) ≡ mayBeLast k
   unfolding tableOf some same
-  end-names = seven (λ k. mayEnd (tableOf t) (nameOf k) ≡ ltb 4 k) refl refl refl refl refl refl refl
+  end-names = seven (λ k. mayEnd (tableOf table) (nameOf k) ≡ mayBeLast k) refl refl refl refl refl refl refl
 
-  may-follow : (n x : Text) (k j : ℕ) → segmentNumber n ≡ k → 1 ≤ k → segmentNumber x ≡ j → 1 ≤ j → mayFollow (tableOf t) n x ≡ follows k j
-  may-follow n x k j e a f b =
-      let p = named-number n k e a in
-      let q = named-number x j f b in
-      rw (p .1, q .1) (follow-names k j a (p .0) b (q .0))
+  may-follow : (n x : Text) (k j : ℕ) → HasNumber n k → HasNumber x j → mayFollow (tableOf table) (name n) (name x) ≡ follows k j
+  may-follow n x k j e f =
+      let p = named-number (name n) k (e .0) (e .1) in
+      let q = named-number (name x) j (f .0) (f .1) in
+      rw (p .1, q .1) (follow-names k j (e .1) (p .0) (f .1) (q .0))
 
-  may-end : (n : Text) (k : ℕ) → segmentNumber n ≡ k → 1 ≤ k → mayEnd (tableOf t) n ≡ ltb 4 k
-  may-end n k e a = let p = named-number n k e a in rw (p .1) (end-names k a (p .0))
+  may-end : (n : Text) (k : ℕ) → HasNumber n k → mayEnd (tableOf table) (name n) ≡ mayBeLast k
+  may-end n k e = let p = named-number (name n) k (e .0) (e .1) in rw (p .1) (end-names k (e .1) (p .0))
 
 -- ---- the segment that stands there
 
@@ -106,14 +119,14 @@ module _ (m : Text) (start end k : ℕ) (h : Here m start end k) where
       let p = named-number (name s) k (h .number .0) (h .number .1) in
       ap length (p .1) ∙ seven (λ j. length (nameOf j) ≡ 3) refl refl refl refl refl refl refl k (h .number .1) (p .0)
 
+  named-long : start + 3 ≤ end
+  named-long = omega (arith, name-length, length-take 3 s, length-take (end - start) (drop start m))
+
   pub named-inside : start + 3 ≤ length m
-  named-inside =
-      omega (arith, name-length, length-take 3 s, length-take (end - start) (drop start m), length-drop start m, h .ends, h .high)
+  named-inside = omega (arith, named-long, h .high)
 
   pub named-there : nameAt m start ≡ name s
-  named-there =
-      let a : 3 ≤ end - start = omega (arith, name-length, length-take 3 s, length-take (end - start) (drop start m)) in
-      sym (take-take 3 (end - start) (drop start m) a)
+  named-there = sym (take-take 3 (end - start) (drop start m) (omega (arith, named-long)))
 
   listed-name : 1 ≤ segmentNumber (name s)
   listed-name = omega (arith, h .number .0, h .number .1)
@@ -138,31 +151,27 @@ next-as T m at r w e x = subst (λ (l : Listed). NextIs T m at l) e x
 onward-as : (T : Table) (m : Text) (start end : ℕ) (r w : Onward) → r ≡ w → OnwardIs T m start end r → OnwardIs T m start end w
 onward-as T m start end r w e x = subst (λ (o : Onward). OnwardIs T m start end o) e x
 
-pub answered : (t : List ℕ) (m : Text) (start end : ℕ) (h : Halt) (r : Onward) → OnwardIs (tableOf t) m start end r → r ≡ onward.Halt h → Walks (tableOf t) m start end h
-answered t m start end h r x e = onward-as (tableOf t) m start end r (onward.Halt h) e x
+pub answered : {T : Table} {m : Text} {start end : ℕ} {h : Halt} (r : Onward) → OnwardIs T m start end r → r ≡ onward.Halt h → Walks T m start end h
+answered {T} {m} {start} {end} {h} r x e = onward-as T m start end r (onward.Halt h) e x
 
--- the reason at the message's end
 -- by the number that its name has
 here-own : (m : Text) (start end k : ℕ) → Here m start end k → Here m start end (numberAt m start end)
 here-own m start end k h = subst (λ (j : ℕ). Here m start end j) (sym (h .number .0)) h
 
-end-small : (b : Bool) → pick b 0 2 ≤ 3
-end-small true = omega arith
-end-small false = omega arith
-
-end-told : (b : Bool) (v : Verdict) (p : Place) → pick (eqb (pick b 0 2) 3) v (told p (pick b 0 2)) ≡ pick (not b) (fault p 2) accepted
+-- at the message's end
+end-told : (b : Bool) (v : Verdict) (p : Place) → whyVerdict (pick b nothingBroken mayNotEnd) p v ≡ pick (not b) (fault p 2) accepted
 end-told true v p = refl
 end-told false v p = refl
 
-module _ (t : List ℕ) (m : Text) (start end k : ℕ) (h : Here m start end k) (r : Finding) where
+module _ (table : List ℕ) (m : Text) (start end k : ℕ) (h : Here m start end k) (r : Finding) where
   abbrev T : Table
-  T = tableOf t
+  T = tableOf table
 
   abbrev x : Text
   x = name (within start end m)
 
   abbrev halt : ℕ → Halt
-  halt a = record { reason = a; start = start; end = end }
+  halt a = record { why = a; start = start; end = end }
 
   -- the checks of its fields, and what is behind it
   abbrev own : ℕ → List Check
@@ -181,11 +190,10 @@ module _ (t : List ℕ) (m : Text) (start end k : ℕ) (h : Here m start end k) 
     walk-split ns last f = rw (f, own-told (suc (count x ns))) (broken-append (own (suc (count x ns))) (behind ns))
 
     -- one of its own checks is broken
-    pub walks-broken : (r .reason ≡ 0 → ⊥) → Walks T m start end (halt 3)
+    pub walks-broken : (r .reason ≡ 0 → ⊥) → Walks T m start end (halt fieldBroken)
     walks-broken f =
         record {
           here = here-own m start end k h;
-          small = omega arith;
           same = λ ns last c l. rw (counted-here m start end k h ns c, walk-split ns last l, ← own-told (suc (count x ns)), ne-eqb (r .reason) 0 f);
         }
 
@@ -194,22 +202,21 @@ module _ (t : List ℕ) (m : Text) (start end k : ℕ) (h : Here m start end k) 
       walk-behind ns last f = walk-split ns last f ∙ rw (eq-eqb (r .reason) 0 good)
 
       -- it is the last one
-      pub walks-end : listedSegments T (drop (end + 1) m) ≡ [] → (a : ℕ) → a ≡ pick (ltb 4 k) 0 2 → Walks T m start end (halt a)
+      pub walks-end : listedSegments T (drop (end + 1) m) ≡ [] → (a : ℕ) → a ≡ pick (mayBeLast k) nothingBroken mayNotEnd → Walks T m start end (halt a)
       unfolding walk firstBroken keep
       walks-end none a e =
           record {
             here = here-own m start end k h;
-            small = rw e (end-small (ltb 4 k));
             same = λ ns last c l.
-                rw (e, counted-here m start end k h ns c, walk-behind ns last l, none, same-self x, may-end t x k (h .number .0) (h .number .1))
-                (end-told (ltb 4 k) (firstBroken (own (suc (count x ns)))) (place x (suc (count x ns)) 0 0 0 0));
+                rw (e, counted-here m start end k h ns c, walk-behind ns last l, none, same-self x, may-end table (within start end m) k (h .number))
+                (end-told (mayBeLast k) (firstBroken (own (suc (count x ns)))) (place x (suc (count x ns)) 0 0 0 0));
           }
 
       -- another one is behind it
       pub walks-behind : (start' end' j : ℕ) → Next T m (end + 1) start' end' j → Behind T m start end start' end' j
       walks-behind start' end' j next =
           record {
-            later = omega (arith, next .low, h .ends);
+            later = omega (arith, next .low);
             here = next .here;
             counts = λ ns c n l. rw (← next .counts n l) (counts-on m start end k h ns c n l);
             same = λ ns last l. walk-behind ns last l ∙ rw (next .first);
@@ -217,72 +224,54 @@ module _ (t : List ℕ) (m : Text) (start end k : ℕ) (h : Here m start end k) 
 
 -- ---- from it to the one behind it
 
--- a reader that stands there, with so many bytes left, goes on
-pub record Goes (t : List ℕ) (m : Text) (start end k left start' end' j : ℕ) : Type 0 where
-  pub sound : Sound t
-  pub here : Here m start end k
-  pub bytes-left : length m - start ≡ left
-  pub behind : Behind (tableOf t) m start end start' end' j
+module _ {m : Text} {start end k : ℕ} where
+  -- it is out of place
+  pub out : {T : Table} → Here m start end k → WalksIf false T m start end (record { why = outOfPlace; start = start; end = end })
+  unfolding walk firstBroken segmentSeen
+  out h =
+      record {
+        here = here-own m start end k h;
+        same = λ ns last c f. rw (counted-here m start end k h ns c, f);
+      }
 
-pub goes : {t : List ℕ} {m : Text} {start end k left start' end' j : ℕ} (r : Onward) → Sound t → Here m start end k → length m - start ≡ left
-    → OnwardIs (tableOf t) m start end r → r ≡ onward.Segment start' end' j → Goes t m start end k left start' end' j
-goes {t} {m} {start} {end} {start' = start'} {end' = end'} {j = j} r sound here left x e =
-    record {
-      sound = sound;
-      here = here;
-      bytes-left = left;
-      behind = onward-as (tableOf t) m start end r (onward.Segment start' end' j) e x;
-    }
+  -- it is read where it fits
+  pub fitting : {T : Table} {h : Halt} (fits : ℕ → Bool) (i : ℕ) → k ≡ i → fits i ≡ true → Walks T m start end h → WalksIf (fits k) T m start end h
+  fitting fits i e f w = rw (e, f) w
 
-module _ {t : List ℕ} {m : Text} {start end k left start' end' j : ℕ} (g : Goes t m start end k left start' end' j) where
-  abbrev next-name : Text
-  next-name = name (within start' end' m)
+  -- what the reader of number i requires
+  pub asks : {table : List ℕ} (i : ℕ) → k ≡ i → Sound table × Here m start end k → Sound table × Here m start end i
+  asks i e pre = (pre .0, subst (λ (x : ℕ). Here m start end x) e (pre .1))
 
-  goes-follows : mayFollow (tableOf t) (name (within start end m)) next-name ≡ follows k j
-  goes-follows =
-      may-follow t (name (within start end m)) next-name k j (g .here .number .0) (g .here .number .1)
-      (g .behind .here .number .0) (g .behind .here .number .1)
+  -- and that behind a segment fewer bytes are left than from it on
+  pub to-reader : {table : List ℕ} {left : ℕ} (i : ℕ) → k ≡ i → (length m - start ≡ left) × (Sound table × Here m start end k)
+      → (length m - end < left) × (Sound table × Here m start end i)
+  to-reader i e pre = (omega (arith, named-long m start end k (pre .1 .1), pre .1 .1 .high), asks i e (pre .1))
 
-  goes-high : j ≤ 7
-  goes-high = named-number next-name j (g .behind .here .number .0) (g .behind .here .number .1) .0
+module _ {table : List ℕ} {m : Text} {start end k start' end' j : ℕ} (pre : Sound table × Here m start end k) (r : Onward)
+    (x : OnwardIs (tableOf table) m start end r) (e : r ≡ onward.Segment start' end' j) where
+  next : Behind (tableOf table) m start end start' end' j
+  next = onward-as (tableOf table) m start end r (onward.Segment start' end' j) e x
 
-  goes-low : 1 ≤ j
-  goes-low = g .behind .here .number .1
+  -- from the next one on fewer bytes are left than behind this one
+  pub to-next : {left : ℕ} → length m - end ≡ left → (length m - start' < left) × (Sound table × Here m start' end' j)
+  to-next l = (omega (arith, next .later, pre .1 .high), (pre .0, next .here))
 
-  -- what the reader of number i requires, and that fewer bytes are left
-  pub goes-to : (i : ℕ) → j ≡ i → (length m - start' < left) × (Sound t × Here m start' end' i)
-  goes-to i e = (
-    omega (arith, g .behind .later, g .bytes-left, g .here .ends, g .here .high),
-    (g .sound, subst (λ (x : ℕ). Here m start' end' x) e (g .behind .here)),
-  )
+  pub to-next-reader : {left : ℕ} (i : ℕ) → j ≡ i → length m - end ≡ left → (length m - end' < left) × (Sound table × Here m start' end' i)
+  to-next-reader i f l =
+      let n = to-next l in
+      let t = to-reader i f (refl, n .1) in
+      (omega (arith, n .0, t .0), t .1)
 
-  -- the verdict from there on
-  pub goes-on : (i : ℕ) (h : Halt) → j ≡ i → follows k i ≡ true → Walks (tableOf t) m start' end' h → Walks (tableOf t) m start end h
-  goes-on i h e f w =
+  -- the walk from the next one on is the walk
+  pub goes-on : {fits : Bool} {h : Halt} → follows k j ≡ fits → WalksIf fits (tableOf table) m start' end' h → Walks (tableOf table) m start end h
+  goes-on f w =
       record {
         here = w .here;
-        small = w .small;
         same = λ ns last c l.
-            w .same (name (within start end m) ∷ ns) (name (within start end m)) (g .behind .counts ns c) (rw (goes-follows, e) f)
-            ∙ sym (g .behind .same ns last l);
+            w .same (name (within start end m) ∷ ns) (name (within start end m)) (next .counts ns c)
+            (may-follow table (within start end m) (within start' end' m) k j (pre .1 .number) (next .here .number) ∙ f)
+            ∙ sym (next .same ns last l);
       }
 
-  -- it is out of place: none of those that may come
-  pub none-late : (j ≡ 4 → ⊥) → (j ≡ 5 → ⊥) → (j ≡ 6 → ⊥) → (j ≡ 7 → ⊥) → ltb 3 j ≡ false
-  none-late a b c d = le-ltb 3 j (omega (arith, goes-low, goes-high))
-
-  pub none-early : (j ≡ 3 → ⊥) → (j ≡ 4 → ⊥) → (j ≡ 5 → ⊥) → ltb 2 j && ltb j 6 ≡ false
-  none-early =
-      seven (λ i. (i ≡ 3 → ⊥) → (i ≡ 4 → ⊥) → (i ≡ 5 → ⊥) → ltb 2 i && ltb i 6 ≡ false)
-      (λ a b c. refl) (λ a b c. refl) (λ a b c. absurd (a refl)) (λ a b c. absurd (b refl)) (λ a b c. absurd (c refl)) (λ a b c. refl) (λ a b c. refl)
-      j goes-low goes-high
-
-  pub goes-out : follows k j ≡ false → Walks (tableOf t) m start end (record { reason = 1; start = start'; end = end' })
-  unfolding walk firstBroken segmentSeen
-  goes-out f =
-      record {
-        here = here-own m start' end' j (g .behind .here);
-        small = omega arith;
-        same = λ ns last c l.
-            rw (g .behind .same ns last l, counted-here m start' end' j (g .behind .here) (name (within start end m) ∷ ns) (g .behind .counts ns c), goes-follows, f);
-      }
+  pub goes-out : follows k j ≡ false → Walks (tableOf table) m start end (record { why = outOfPlace; start = start'; end = end' })
+  goes-out f = goes-on f (out (next .here))

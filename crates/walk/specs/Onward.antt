@@ -13,7 +13,7 @@ use Rattle.walk.specs.Judged.{Counts, walkFrom, Walks}
 
 -- THE SEGMENT BEHIND the one that stands from start to end: the verdict from there on is the verdict
 pub record Behind (T : Table) (m : Text) (start end start' end' k : ℕ) : Type 0 where
-  pub later : start < start'
+  pub later : end < start'
   pub here : Here m start' end' k
   pub counts : (ns : List Text) → Counts m start ns → Counts m start' (name (within start end m) ∷ ns)
   pub same : (ns : List Text) (last : Text) → mayFollow T last (name (within start end m)) ≡ true

@@ -1,38 +1,46 @@
 // The readers of a message's listed segments. Group, observation and note readers call one another, and with each call fewer segments
 // remain. They carry no counts and answer only where they stopped, so that a call costs little: the verdict is made of that once, at the end.
 // Inner: the callers hold the table's rule, where the segment stands and that it may stand there.
-// Numbers of names: 1 MSH, 2 PID, 3 NK1, 4 ORC, 5 OBR, 6 OBX, 7 NTE.
 ghost use mathlib.Core.Path.{_≡_};
-ghost use lib.Dec.{ltb};
 ghost use Rattle.text.specs.Bytes.{pick};
 ghost use Rattle.profile.specs.Numbers.{tableOf};
 ghost use Rattle.profile.specs.Order.{Sound};
 ghost use Rattle.listing.specs.Listing.{Here};
-ghost use Rattle.walk.specs.Judged.{Walks};
+ghost use Rattle.walk.specs.Named.{MSH, PID, NK1, ORC, OBR, OBX, NTE, behindPatient, behindGroup, mayBeLast};
+ghost use Rattle.walk.specs.Judged.{nothingBroken, mayNotEnd, WalksIf, Walks};
 ghost use Rattle.walk.specs.Onward.{OnwardIs};
 use listing::Listed;
 use listing::next_listed;
+use profile::numbers;
 use segments::read_segment;
 use text::marks_of;
 
-// Where reading stopped: at the segment that stands from start up to end.
-// Reason 0: nothing is broken. 1: the segment is out of place. 2: the message may not end behind it. 3: a check of its own fields is
-// broken; those have the reasons from 3 on, and which of them it is, and where, is found by reading the segment again.
-// The reason is a whole word, since each reader hands this on: a byte beside two words would be handed on piece by piece.
+// Why reading stopped at a segment. Where a check of its own fields is broken, which of them it is, and where, is found by reading the
+// segment again.
+pub const NOTHING_BROKEN: u64 = 0;
+
+pub const OUT_OF_PLACE: u64 = 1;
+
+pub const MAY_NOT_END: u64 = 2;
+
+pub const FIELD_BROKEN: u64 = 3;
+
+// Where reading stopped, and why: at the segment that stands from start up to end.
+// Why is a whole word, since each reader hands this on: a byte beside two words would be handed on piece by piece.
 pub struct Halt {
-    pub reason: u64,
+    pub why: u64,
     pub start: usize,
     pub end: usize,
 }
 
-// The reason where the message ends behind a segment of that number: behind an OBR, an OBX or an NTE it may.
+// Why reading stops where the message ends behind a segment of that number.
 fn end_behind(number: u16) -> u64
-    ensures { λ r. ⌜ r ≡ pick (ltb 4 number) 0 2 ⌝ }
+    ensures { λ r. ⌜ r ≡ pick (mayBeLast number) nothingBroken mayNotEnd ⌝ }
 {
-    if 4 < number {
-        return 0;
+    match number {
+        numbers::OBR | numbers::OBX | numbers::NTE => NOTHING_BROKEN,
+        _ => MAY_NOT_END,
     }
-    2
 }
 
 // What comes of reading a segment: reading stops there, or the next listed segment is to be read.
@@ -46,21 +54,21 @@ enum Onward {
 }
 
 // Reads the segment that stands there and finds the next one.
-fn read_on(m: &[u8], t: &[u16], start: usize, end: usize, number: u16) -> Onward
-    requires { ⌜ Sound (now t) × Here (now m) start end number ⌝ }
-    ensures { λ r. ⌜ OnwardIs (tableOf (now (t .entry))) (now (m .entry)) start end r ⌝ }
+fn read_on(m: &[u8], table: &[u16], start: usize, end: usize, number: u16) -> Onward
+    requires { ⌜ Sound (now table) × Here (now m) start end number ⌝ }
+    ensures { λ r. ⌜ OnwardIs (tableOf (now (table .entry))) (now (m .entry)) start end r ⌝ }
 {
-    let r = read_segment(&m[start..end], marks_of(m), t, number);
+    let r = read_segment(&m[start..end], marks_of(m), table, number);
     if r.reason != 0 {
         return Onward::Halt(Halt {
-            reason: 3,
+            why: FIELD_BROKEN,
             start,
             end,
         });
     }
     match next_listed(m, end + 1) {
         Listed::None => Onward::Halt(Halt {
-            reason: end_behind(number),
+            why: end_behind(number),
             start,
             end,
         }),
@@ -69,16 +77,16 @@ fn read_on(m: &[u8], t: &[u16], start: usize, end: usize, number: u16) -> Onward
 }
 
 // An ORC, which a group follows.
-fn order(m: &[u8], t: &[u16], start: usize, end: usize) -> Halt
-    requires { ⌜ Sound (now t) × Here (now m) start end 4 ⌝ }
-    ensures { λ r. ⌜ Walks (tableOf (now (t .entry))) (now (m .entry)) start end r ⌝ }
+fn order(m: &[u8], table: &[u16], start: usize, end: usize) -> Halt
+    requires { ⌜ Sound (now table) × Here (now m) start end ORC ⌝ }
+    ensures { λ r. ⌜ Walks (tableOf (now (table .entry))) (now (m .entry)) start end r ⌝ }
 {
-    match read_on(m, t, start, end, 4) {
+    match read_on(m, table, start, end, numbers::ORC) {
         Onward::Halt(h) => h,
         Onward::Segment { start, end, number } => match number {
-            5 => group(m, t, start, end),
+            numbers::OBR => group(m, table, start, end),
             _ => Halt {
-                reason: 1,
+                why: OUT_OF_PLACE,
                 start,
                 end,
             },
@@ -87,119 +95,106 @@ fn order(m: &[u8], t: &[u16], start: usize, end: usize) -> Halt
 }
 
 // An OBR: after a group a group may come.
-fn group(m: &[u8], t: &[u16], start: usize, end: usize) -> Halt
-    requires { ⌜ Sound (now t) × Here (now m) start end 5 ⌝ }
-    ensures { λ r. ⌜ Walks (tableOf (now (t .entry))) (now (m .entry)) start end r ⌝ }
+fn group(m: &[u8], table: &[u16], start: usize, end: usize) -> Halt
+    requires { ⌜ Sound (now table) × Here (now m) start end OBR ⌝ }
+    ensures { λ r. ⌜ Walks (tableOf (now (table .entry))) (now (m .entry)) start end r ⌝ }
 {
-    match read_on(m, t, start, end, 5) {
+    match read_on(m, table, start, end, numbers::OBR) {
         Onward::Halt(h) => h,
-        Onward::Segment { start, end, number } => match number {
-            4 => order(m, t, start, end),
-            5 => group(m, t, start, end),
-            6 => observation(m, t, start, end),
-            7 => note(m, t, start, end),
-            _ => Halt {
-                reason: 1,
-                start,
-                end,
-            },
-        },
+        Onward::Segment { start, end, number } => behind_group(m, table, start, end, number),
     }
 }
 
 // An OBX: after an observation its notes may come.
-fn observation(m: &[u8], t: &[u16], start: usize, end: usize) -> Halt
-    requires { ⌜ Sound (now t) × Here (now m) start end 6 ⌝ }
-    ensures { λ r. ⌜ Walks (tableOf (now (t .entry))) (now (m .entry)) start end r ⌝ }
+fn observation(m: &[u8], table: &[u16], start: usize, end: usize) -> Halt
+    requires { ⌜ Sound (now table) × Here (now m) start end OBX ⌝ }
+    ensures { λ r. ⌜ Walks (tableOf (now (table .entry))) (now (m .entry)) start end r ⌝ }
 {
-    match read_on(m, t, start, end, 6) {
+    match read_on(m, table, start, end, numbers::OBX) {
         Onward::Halt(h) => h,
-        Onward::Segment { start, end, number } => match number {
-            4 => order(m, t, start, end),
-            5 => group(m, t, start, end),
-            6 => observation(m, t, start, end),
-            7 => note(m, t, start, end),
-            _ => Halt {
-                reason: 1,
-                start,
-                end,
-            },
-        },
+        Onward::Segment { start, end, number } => behind_group(m, table, start, end, number),
     }
 }
 
 // An NTE: after notes another observation may come.
-fn note(m: &[u8], t: &[u16], start: usize, end: usize) -> Halt
-    requires { ⌜ Sound (now t) × Here (now m) start end 7 ⌝ }
-    ensures { λ r. ⌜ Walks (tableOf (now (t .entry))) (now (m .entry)) start end r ⌝ }
+fn note(m: &[u8], table: &[u16], start: usize, end: usize) -> Halt
+    requires { ⌜ Sound (now table) × Here (now m) start end NTE ⌝ }
+    ensures { λ r. ⌜ Walks (tableOf (now (table .entry))) (now (m .entry)) start end r ⌝ }
 {
-    match read_on(m, t, start, end, 7) {
+    match read_on(m, table, start, end, numbers::NTE) {
         Onward::Halt(h) => h,
-        Onward::Segment { start, end, number } => match number {
-            4 => order(m, t, start, end),
-            5 => group(m, t, start, end),
-            6 => observation(m, t, start, end),
-            7 => note(m, t, start, end),
-            _ => Halt {
-                reason: 1,
-                start,
-                end,
-            },
+        Onward::Segment { start, end, number } => behind_group(m, table, start, end, number),
+    }
+}
+
+// The segment behind an OBR, an OBX or an NTE: the same may follow each of them.
+fn behind_group(m: &[u8], table: &[u16], start: usize, end: usize, number: u16) -> Halt
+    requires { ⌜ Sound (now table) × Here (now m) start end number ⌝ }
+    ensures { λ r. ⌜ WalksIf (behindGroup number) (tableOf (now (table .entry))) (now (m .entry)) start end r ⌝ }
+{
+    match number {
+        numbers::ORC => order(m, table, start, end),
+        numbers::OBR => group(m, table, start, end),
+        numbers::OBX => observation(m, table, start, end),
+        numbers::NTE => note(m, table, start, end),
+        _ => Halt {
+            why: OUT_OF_PLACE,
+            start,
+            end,
         },
     }
 }
 
 // An NK1.
-fn kin(m: &[u8], t: &[u16], start: usize, end: usize) -> Halt
-    requires { ⌜ Sound (now t) × Here (now m) start end 3 ⌝ }
-    ensures { λ r. ⌜ Walks (tableOf (now (t .entry))) (now (m .entry)) start end r ⌝ }
+fn kin(m: &[u8], table: &[u16], start: usize, end: usize) -> Halt
+    requires { ⌜ Sound (now table) × Here (now m) start end NK1 ⌝ }
+    ensures { λ r. ⌜ Walks (tableOf (now (table .entry))) (now (m .entry)) start end r ⌝ }
 {
-    match read_on(m, t, start, end, 3) {
+    match read_on(m, table, start, end, numbers::NK1) {
         Onward::Halt(h) => h,
-        Onward::Segment { start, end, number } => match number {
-            3 => kin(m, t, start, end),
-            4 => order(m, t, start, end),
-            5 => group(m, t, start, end),
-            _ => Halt {
-                reason: 1,
-                start,
-                end,
-            },
-        },
+        Onward::Segment { start, end, number } => behind_patient(m, table, start, end, number),
     }
 }
 
 // The PID.
-fn patient(m: &[u8], t: &[u16], start: usize, end: usize) -> Halt
-    requires { ⌜ Sound (now t) × Here (now m) start end 2 ⌝ }
-    ensures { λ r. ⌜ Walks (tableOf (now (t .entry))) (now (m .entry)) start end r ⌝ }
+fn patient(m: &[u8], table: &[u16], start: usize, end: usize) -> Halt
+    requires { ⌜ Sound (now table) × Here (now m) start end PID ⌝ }
+    ensures { λ r. ⌜ Walks (tableOf (now (table .entry))) (now (m .entry)) start end r ⌝ }
 {
-    match read_on(m, t, start, end, 2) {
+    match read_on(m, table, start, end, numbers::PID) {
         Onward::Halt(h) => h,
-        Onward::Segment { start, end, number } => match number {
-            3 => kin(m, t, start, end),
-            4 => order(m, t, start, end),
-            5 => group(m, t, start, end),
-            _ => Halt {
-                reason: 1,
-                start,
-                end,
-            },
+        Onward::Segment { start, end, number } => behind_patient(m, table, start, end, number),
+    }
+}
+
+// The segment behind the PID or an NK1.
+fn behind_patient(m: &[u8], table: &[u16], start: usize, end: usize, number: u16) -> Halt
+    requires { ⌜ Sound (now table) × Here (now m) start end number ⌝ }
+    ensures { λ r. ⌜ WalksIf (behindPatient number) (tableOf (now (table .entry))) (now (m .entry)) start end r ⌝ }
+{
+    match number {
+        numbers::NK1 => kin(m, table, start, end),
+        numbers::ORC => order(m, table, start, end),
+        numbers::OBR => group(m, table, start, end),
+        _ => Halt {
+            why: OUT_OF_PLACE,
+            start,
+            end,
         },
     }
 }
 
 // The header.
-pub fn header(m: &[u8], t: &[u16], start: usize, end: usize) -> Halt
-    requires { ⌜ Sound (now t) × Here (now m) start end 1 ⌝ }
-    ensures { λ r. ⌜ Walks (tableOf (now (t .entry))) (now (m .entry)) start end r ⌝ }
+pub fn header(m: &[u8], table: &[u16], start: usize, end: usize) -> Halt
+    requires { ⌜ Sound (now table) × Here (now m) start end MSH ⌝ }
+    ensures { λ r. ⌜ Walks (tableOf (now (table .entry))) (now (m .entry)) start end r ⌝ }
 {
-    match read_on(m, t, start, end, 1) {
+    match read_on(m, table, start, end, numbers::MSH) {
         Onward::Halt(h) => h,
         Onward::Segment { start, end, number } => match number {
-            2 => patient(m, t, start, end),
+            numbers::PID => patient(m, table, start, end),
             _ => Halt {
-                reason: 1,
+                why: OUT_OF_PLACE,
                 start,
                 end,
             },

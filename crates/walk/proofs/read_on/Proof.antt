@@ -14,7 +14,7 @@ returns c =
     let r = c .before .before in
     let q = r .before in
     let b = q .before .before .before .before in
-    walks-broken (b .args .t .now) (b .args .m .now) (b .args .start) (b .args .end) (b .args .number) (b .pre .1)
+    walks-broken (b .args .table .now) (b .args .m .now) (b .args .start) (b .args .end) (b .args .number) (b .pre .1)
     (r .read-segment .result) (q .marks-of .result) (q .marks-of .ensures) (r .read-segment .ensures) (c .if1 .taken)
 
 next-listed-requires : tie.Need-next-listed-requires
@@ -30,9 +30,9 @@ returns-2 c =
     let r = e .before .before in
     let q = r .before in
     let b = q .before .before .before .before in
-    walks-end (b .args .t .now) (b .args .m .now) (b .args .start) (b .args .end) (b .args .number) (b .pre .1)
+    walks-end (b .args .table .now) (b .args .m .now) (b .args .start) (b .args .end) (b .args .number) (b .pre .1)
     (r .read-segment .result) (q .marks-of .result) (q .marks-of .ensures) (r .read-segment .ensures) (e .if1 .left)
-    (next-as (tableOf (b .args .t .now)) (b .args .m .now) (b .args .end + 1) (l .next-listed .result) None (c .before .enum-told .given .1) (l .next-listed .ensures (b .args .t .now) (b .pre .0)))
+    (next-as (tableOf (b .args .table .now)) (b .args .m .now) (b .args .end + 1) (l .next-listed .result) None (c .before .enum-told .given .1) (l .next-listed .ensures (b .args .table .now) (b .pre .0)))
     (c .end-behind .result) (c .end-behind .ensures)
 
 returns-3 : tie.Need-returns-3
@@ -43,10 +43,10 @@ returns-3 c =
     let q = r .before in
     let b = q .before .before .before .before in
     let x = c .before .start .given in
-    walks-behind (b .args .t .now) (b .args .m .now) (b .args .start) (b .args .end) (b .args .number) (b .pre .1)
+    walks-behind (b .args .table .now) (b .args .m .now) (b .args .start) (b .args .end) (b .args .number) (b .pre .1)
     (r .read-segment .result) (q .marks-of .result) (q .marks-of .ensures) (r .read-segment .ensures) (e .if1 .left)
     (x .0 .0) (x .0 .1 .0) (x .0 .1 .1 .0)
-    (next-as (tableOf (b .args .t .now)) (b .args .m .now) (b .args .end + 1) (l .next-listed .result) (Segment (x .0 .0) (x .0 .1 .0) (x .0 .1 .1 .0)) (x .1) (l .next-listed .ensures (b .args .t .now) (b .pre .0)))
+    (next-as (tableOf (b .args .table .now)) (b .args .m .now) (b .args .end + 1) (l .next-listed .result) (Segment (x .0 .0) (x .0 .1 .0) (x .0 .1 .1 .0)) (x .1) (l .next-listed .ensures (b .args .table .now) (b .pre .0)))
 
 pub read-on-spec : {M : Type 1} → statement M
 read-on-spec =
