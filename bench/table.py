@@ -3,7 +3,7 @@
     python3 bench/table.py WHAT COMMAND..
 
 WHAT is `counts`, `times` or both in one word; COMMAND is the program of bench/program, and before it the emulator where one runs it. A count is what three
-calls take more than two, over the message's bytes. It is the same from run to run but for some hundredths.
+calls take more than two, over the message's bytes. It is the same in every run, and by valgrind and by the emulator.
 """
 import re
 import subprocess
@@ -108,7 +108,7 @@ def timed(command, who, what, message):
     times = str(max(1, 20_000_000 // len(message) // 10))
     runs = []
     for _ in range(5):
-        said = subprocess.run([*command, who, what, times], input=message, stdout=subprocess.PIPE, check=True).stdout
+        said = subprocess.run([*command, who, what, times, "timed"], input=message, stdout=subprocess.PIPE, check=True).stdout
         runs.append(int(said.split()[-1]) / int(times))
     return min(runs)
 
