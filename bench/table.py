@@ -170,7 +170,7 @@ def main():
     if not command:
         sys.exit("usage: python3 bench/table.py WHAT COMMAND.. (bench/table does it)")
     if "counts" in asked:
-        print("Instructions for each byte of the message")
+        print("\nInstructions for each byte of the message")
         counts(command)
     if "times" in asked:
         print("\nMicroseconds a call")
