@@ -1,11 +1,13 @@
-//! Calls an entry so many times on a message from standard input, and prints what came of it and how long it took.
+//! Calls an entry so many times on a message from standard input, and prints what came of a call and, where it is asked, how long all took.
 //!
-//! Nothing but the calls depends on the number of times, so what three calls take more than two is what a call takes.
+//! Nothing but the calls depends on the number of times, so what three calls take more than two is what a call takes. Digits depend on what they tell:
+//! so the answer printed is one call's, and a time is printed only where it is asked for.
 
 #![forbid(unsafe_code)]
 
 use std::env;
 use std::io::{self, Read};
+use std::num::NonZeroU64;
 use std::process::ExitCode;
 use std::sync::atomic::{AtomicUsize, Ordering};
 use std::time::Instant;
@@ -17,8 +19,8 @@ use ours::Ours;
 use theirs::Theirs;
 
 const USAGE: &str = "\
-usage: bench ours|second frame|judge|look|reply|file TIMES < MESSAGE
-       bench sum bytes TIMES < MESSAGE
+usage: bench ours|second frame|judge|look|reply|file TIMES [timed] < MESSAGE
+       bench sum bytes TIMES [timed] < MESSAGE
 ";
 
 pub const STAMP: &[u8] = b"20240305101501";
@@ -76,7 +78,7 @@ fn entry_of<C: Core>(what: &str) -> Option<Entry> {
     }
 }
 
-fn run(entry: Entry, times: u64, message: &[u8]) {
+fn run(entry: Entry, times: NonZeroU64, is_timed: bool, message: &[u8]) {
     let observations = message.split(|&byte| byte == b'\r').filter(|segment| segment.starts_with(b"OBX"));
     let mut lent = Lent {
         last: observations.count() as u64,
@@ -85,16 +87,23 @@ fn run(entry: Entry, times: u64, message: &[u8]) {
     };
     let mut answers: u64 = 0;
     let begin = Instant::now();
-    for _ in 0..times {
+    for _ in 0..times.get() {
         answers = answers.wrapping_add(entry(&message[START.load(Ordering::Relaxed)..], &mut lent));
     }
-    let taken = begin.elapsed().as_nanos();
-    println!("answers {} nanoseconds {}", answers, taken);
+    let taken = is_timed.then(|| begin.elapsed());
+    println!("answer {}", answers / times);
+    if let Some(taken) = taken {
+        println!("nanoseconds {}", taken.as_nanos());
+    }
 }
 
 fn main() -> ExitCode {
     let words: Vec<String> = env::args().skip(1).collect();
-    let asked = match words.as_slice() {
+    let (words, is_timed) = match words.split_last() {
+        Some((last, others)) if last == "timed" => (others, true),
+        _ => (words.as_slice(), false),
+    };
+    let asked = match words {
         [who, what, times] => entry(who, what).zip(times.parse().ok()),
         _ => None,
     };
@@ -105,7 +114,7 @@ fn main() -> ExitCode {
                 eprintln!("bench: {}", error);
                 return ExitCode::FAILURE;
             }
-            run(entry, times, &message);
+            run(entry, times, is_timed, &message);
             ExitCode::SUCCESS
         }
         None => {
