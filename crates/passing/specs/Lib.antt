@@ -1,2 +1,3 @@
 pub mod Flat
 pub mod Bare
+pub mod Broken

@@ -88,13 +88,13 @@ pub fn segment_passes(s: &[u8], q: Marks, table: &[u16], k: u16) -> bool
     requires { ⌜ Sound (now table) × HasNumber (now s) k ⌝ }
     ensures { λ r. ⌜ (r ≡ true → ReadsSegment q (tableOf (now (table .entry))) (now (s .entry)) (atRepetition 0 0 0)) ⌝ }
 {
-    let rows = rows_under(table, k);
-    let last = rows.end;
     let skip = fields_start(s, k);
     let fields = &s[skip..];
     if fields.len() == 0 {
         return all_optional(table, k);
     }
+    let rows = rows_under(table, k);
+    let last = rows.end;
     let before = fields_before(k);
     let mut cursor = first_piece(fields, q.field, false);
     let mut at = rows.start;

@@ -11,8 +11,8 @@ ghost use Rattle.walk.specs.Judged.{nothingBroken, mayNotEnd, WalksIf, W
 ghost use Rattle.walk.specs.Onward.{OnwardIs};
 use listing::Listed;
 use listing::next_listed;
+use passing::is_broken;
 use profile::numbers;
-use segments::read_segment;
 use text::marks_of;
 
 // Why reading stopped at a segment. Where a check of its own fields is broken, which of them it is, and where, is found by reading the
@@ -58,8 +58,7 @@ fn read_on(m: &[u8], table: &[u16], start: usize, end: usize, number: u16) -> On
     requires { ⌜ Sound (now table) × Here (now m) start end number ⌝ }
     ensures { λ r. ⌜ OnwardIs (tableOf (now (table .entry))) (now (m .entry)) start end r ⌝ }
 {
-    let r = read_segment(&m[start..end], marks_of(m), table, number);
-    if r.reason != 0 {
+    if is_broken(&m[start..end], marks_of(m), table, number) {
         return Onward::Halt(Halt {
             why: FIELD_BROKEN,
             start,

@@ -24,35 +24,35 @@ use Rattle.passing.proofs.segment.segment_passes.Statement.{statement}
 use Rattle.passing.proofs.segment.segment_passes.Tie as tie
 
 abbrev Inv-loop : tie.InvT-loop
-Inv-loop s q table k last skip fields before cursor₀ at₀ flat cursor at = Reading table q s k last fields cursor at
+Inv-loop s q table k skip fields last before cursor₀ at₀ flat cursor at = Reading table q s k last fields cursor at
 
 abbrev μ-loop : tie.MeasureT-loop
-μ-loop s q table k last skip fields before cursor₀ at₀ flat cursor at = last - at
+μ-loop s q table k skip fields last before cursor₀ at₀ flat cursor at = last - at
 
 rows-under-requires : tie.Need-rows-under-requires Inv-loop μ-loop
 rows-under-requires c κs =
-    let o = c .before .before in
+    let o = c .before .before .before .before .before in
     let h = o .pre .1 in
     (o .pre .0, (h .1, omega (arith, named-number (name (o .args .s .now)) (o .args .k) (h .0) (h .1) .0)))
 
 all-optional-requires : tie.Need-all-optional-requires Inv-loop μ-loop
 all-optional-requires c κs =
-    let o = c .before .before .before .before .before .before in
+    let o = c .before .before .before .before .before in
     let h = o .pre .1 in
     (o .pre .0, (h .1, omega (arith, named-number (name (o .args .s .now)) (o .args .k) (h .0) (h .1) .0)))
 
 returns : tie.Need-returns Inv-loop μ-loop
 returns c e =
     let f = c .before .before .before in
-    let o = f .before .before .before .before in
+    let o = f .before .before .before in
     let a = o .args in
     c .all-optional .ensures e (a .q) (a .s .now) (o .pre .1)
     (omega (arith, f .fields-start .ensures, c .before .if1 .taken, within-length (a .s .now) (f .fields-start .result) (length (a .s .now)) (omega (arith, f .fields-start .ensures)) (omega arith)))
 
 loop-holds : tie.Need-loop-holds Inv-loop μ-loop
 loop-holds c =
-    let u = c .before .before .before .before .before .before in
-    reading-first (u .before .before .before .pre .1) (u .rows-under .ensures) (c .before .first-piece .ensures)
+    let u = c .before .before .before in
+    reading-first (u .before .before .before .before .before .before .pre .1) (u .rows-under .ensures) (c .before .first-piece .ensures)
 
 next-field-requires : tie.Need-next-field-requires Inv-loop μ-loop
 next-field-requires c κs = let l = c .before .loop .inv .left in omega (arith, c .loop-test .taken, l .order, l .inside)
@@ -60,8 +60,8 @@ next-field-requires c κs = let l = c .before .loop .inv .left in omega (arith, 
 -- the field where the loop stands
 here : (d : tie.After-next-field Inv-loop μ-loop)
     → let l = d .before .before in
-    let u = l .before .before .before .before .before .before .before in
-    let a = u .before .before .before .args in
+    let u = l .before .before .before .before in
+    let a = u .before .before .before .before .before .before .args in
     Ahead (a .table .now) (a .k) (l .loop .at) (u .rows-under .result .end) (d .next-field .result)
 here d = ahead (d .before .before .loop .inv .left) (d .before .loop-test .taken) (d .next-field .ensures)
 
@@ -87,15 +87,15 @@ advance-requires c κs =
 there : (v : tie.After-advance Inv-loop μ-loop)
     → let d = v .before .before in
     let l = d .before .before in
-    let f = l .before .before .before .before .before .before in
-    let a = f .before .before .before .before .args in
+    let f = l .before .before .before .before .before .before .before in
+    let a = f .before .before .before .args in
     FieldText (a .q) (a .table .now) (a .s .now) (a .k) (l .loop .at) (d .next-field .result)
     (within (v .advance .result .start) (v .advance .result .end) (within (f .fields-start .result) (length (a .s .now)) (a .s .now)))
 there v =
     let d = v .before .before in
     let l = d .before .before in
     let b = l .before .before .before in
-    text-there (l .loop .inv) (here d) (b .fields-before .ensures) (v .advance .ensures) (b .before .before .before .fields-start .ensures) refl
+    text-there (l .loop .inv) (here d) (b .fields-before .ensures) (v .advance .ensures) (b .before .before .before .before .fields-start .ensures) refl
 
 may-be-empty-requires : tie.Need-may-be-empty-requires Inv-loop μ-loop
 may-be-empty-requires c κs =
@@ -111,12 +111,12 @@ text-passes-requires c κs =
     let v = c .before .before .before in
     let l = v .before .before .before .before in
     let y = l .before in
-    let f = y .before .before .before .before .before in
-    let a = f .before .before .before .before .args in
+    let f = y .before .before .before .before .before .before in
+    let a = f .before .before .before .args in
     let t = there v in
     let x = within (f .fields-start .result) (length (a .s .now)) (a .s .now) in
     let b = both (y .is-flat .result) (ltb (length x) 256) (not-false _ (c .before .if4 .left)) in (
-      f .before .before .before .before .pre,
+      f .before .before .before .pre,
       ((t .rows, t .text), flat-within (a .q) (v .advance .result .start) (v .advance .result .end) x (sym (y .is-flat .ensures) ∙ b .0)),
     )
 
@@ -144,13 +144,13 @@ segment-passes-spec =
     (tie.spec
     Inv-loop
     μ-loop
-    rows-under-requires
     (λ c κs. search needs)
     (λ c. search needs)
     (λ c. search needs)
     (λ c. search needs)
     all-optional-requires
     returns
+    rows-under-requires
     (λ c κs. search needs)
     (λ c κs. search needs)
     (λ c κs. search needs)
