@@ -1,1 +1,3 @@
 pub mod Repeats
+pub mod FlatField
+pub mod Sure

@@ -19,7 +19,7 @@ use Rattle.listing.specs.Listing.{HasNumber}
 use Rattle.located.proofs.FieldText.{before-field}
 use Rattle.usage.proofs.SegmentFields.{Left, left-first, Ahead, ahead-number, left-on}
 use Rattle.segments.specs.Judged.{ReadsSegment, atRepetition}
-use Rattle.segments.proofs.FieldChecks.{none-passes}
+use Rattle.segments.proofs.FieldChecks.{usage-none, none-passes}
 use Rattle.segments.proofs.SegmentReading.{Reading, reading-first, text-there, reading-on, reading-none}
 use Rattle.passing.specs.Bare.{BarePasses}
 
@@ -29,16 +29,6 @@ unfolding split before
 piece-none sep zero h = absurd (omega arith)
 piece-none sep (suc zero) h = record { from = h; starts = refl; ends = refl }
 piece-none sep (suc (suc n)) h = record { from = h; starts = refl; ends = refl }
-
--- an optional field is not required
-pub usage-none : (u : ℕ) (vs : List Field) → u ≡ 0 → isRequired (usageOf u) vs ≡ false
-usage-none u vs e = rw e
-
--- what stands between a place and itself
-pub text-none : (a e : ℕ) (x : Text) → a ≡ e → within a e x ≡ []
-text-none a e x h =
-    let z : e - a ≡ 0 = omega (arith, h) in
-    rw z
 
 no-fields : (k : ℕ) (s : Text) → length s ≤ fieldsFrom k → [] ≡ within (min (fieldsFrom k) (length s)) (length s) s
 no-fields k s h =

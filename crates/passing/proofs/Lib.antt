@@ -1,3 +1,1 @@
-pub mod FlatField
-pub mod Sure
 pub mod Bare

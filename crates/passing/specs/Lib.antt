@@ -1,3 +1,2 @@
-pub mod Flat
 pub mod Bare
 pub mod Broken

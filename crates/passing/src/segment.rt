@@ -1,32 +1,24 @@
 // A segment as most are: its fields have components at most, and are short.
 ghost use mathlib.Core.Path.{_≡_};
-ghost use mathlib.Core.Bool.{true, false};
-ghost use Prim.Native.Nat.{_+_, _≤_};
-ghost use lib.ListN.{length, getD};
-ghost use Rattle.frame.specs.Segments.{field};
-ghost use Rattle.profile.specs.Numbers.{rowSize, fieldColumn, usageColumn, noType, usageOf, tableOf};
+ghost use mathlib.Core.Bool.{true};
+ghost use Prim.Native.Nat.{_≤_};
+ghost use Rattle.profile.specs.Numbers.{noType, tableOf};
 ghost use Rattle.profile.specs.Order.{Sound};
-ghost use Rattle.codes.specs.Inner.{IsField};
-ghost use Rattle.checks.specs.Fault.{isRequired};
 ghost use Rattle.listing.specs.Listing.{HasNumber};
-ghost use Rattle.usage.specs.Listed.{fieldsSeen};
-ghost use Rattle.segments.specs.Judged.{ReadsFieldAt, ReadsSegment, atRepetition};
-ghost use Rattle.passing.specs.Flat.{isFlat};
+ghost use Rattle.segments.specs.Judged.{ReadsSegment, atRepetition};
 ghost use Rattle.passing.specs.Bare.{BarePasses};
-use crate::flat::flat_passes;
-use crate::flat::is_flat;
-use codes::Rows;
 use codes::next_field;
 use codes::rows_under;
 use cursor::advance;
 use cursor::first_piece;
+use fields::is_flat;
 use located::fields_before;
 use located::fields_start;
-use located::leaf_rows;
 use profile::columns;
 use profile::numbers;
+use segments::may_be_empty;
+use segments::text_passes;
 use text::Marks;
-use usage::is_required;
 
 // From how many bytes on a segment's fields count as long: fields in it may be so long that they are better sought by many bytes at once.
 const LONG: usize = 256;
@@ -46,41 +38,6 @@ fn all_optional(table: &[u16], k: u16) -> bool
         at = next_field(table, at);
     }
     true
-}
-
-// Whether a field is seen to break nothing: it stands in `text`, which is part of a flat text, and has the rows from `at` up to `end`.
-fn text_passes(
-    s: &[u8],
-    text: &[u8],
-    q: Marks,
-    table: &[u16],
-    k: u16,
-    at: usize,
-    end: usize,
-) -> bool
-    requires { ⌜ Sound (now table) × HasNumber (now s) k ⌝ }
-    requires { ⌜ IsField (now table) k at end × (now text ≡ field q (now s) (getD (now table) (at + fieldColumn) 0)) ⌝ }
-    requires { ⌜ isFlat q (now text) ≡ true ⌝ }
-    ensures { λ r. ⌜ (r ≡ true → ReadsFieldAt q (now (table .entry)) (now (s .entry)) at end (atRepetition 0 0 0)) ⌝ }
-{
-    let mut leaves = Rows { start: at, end };
-    if numbers::NAMED_BY <= table[at + columns::TYPE] {
-        leaves = leaf_rows(s, q, table, k, at, end);
-    }
-    flat_passes(text, q, table, leaves)
-}
-
-// Whether a field of no bytes breaks nothing.
-fn may_be_empty(s: &[u8], q: Marks, table: &[u16], k: u16, at: usize) -> bool
-    requires { ⌜ Sound (now table) × HasNumber (now s) k ⌝ }
-    requires { ⌜ at + rowSize ≤ length (now table) ⌝ }
-    ensures { λ r. ⌜ (r ≡ true → isRequired (usageOf (getD (now (table .entry)) (at + usageColumn) 0)) (fieldsSeen (now (table .entry)) q (now (s .entry))) ≡ false) ⌝ }
-{
-    let usage = table[at + columns::USAGE];
-    if usage == numbers::OPTIONAL {
-        return true;
-    }
-    !is_required(s, q, table, k, usage)
 }
 
 // Whether the segment is seen to break nothing.

@@ -1,6 +1,6 @@
 -- The first broken check of a field, by its three kinds.
 use mathlib.Core.Path.{_≡_, refl, sym, ap, subst, _∙_}
-use Prim.Native.Nat.{ℕ, _+_}
+use Prim.Native.Nat.{ℕ, _+_, _-_}
 use native.Mathlib.Numerals.{add-one}
 use native.Mathlib.Omega.{arith}
 use mathlib.Core.Bool.{Bool, true, false, not, _&&_}
@@ -8,7 +8,7 @@ use mathlib.Core.List.{List, [], flatMap}
 use lib.ListN.{length, getD}
 use lib.Dec.{ltb}
 use borrow.Author.Tests.{le-ltb, not-true, not-false}
-use Rattle.text.specs.Bytes.{Text, some}
+use Rattle.text.specs.Bytes.{Text, within}
 use Rattle.text.specs.declared.marks.Marks.{Marks}
 use Rattle.frame.specs.Segments.{field, unsplit}
 use Rattle.profile.specs.Table.{Rule, Leaf}
@@ -27,6 +27,16 @@ use Rattle.usage.specs.Listed.{fieldsSeen}
 use Rattle.usage.proofs.FieldSeen.{seen-surplus, seen-filled, seen-first}
 use Rattle.segments.specs.declared.Finding.{Finding}
 use Rattle.segments.specs.Judged.{toldAt, atRepetition, ReadsFieldAt}
+
+-- an optional field is not required
+pub usage-none : (u : ℕ) (vs : List Field) → u ≡ 0 → isRequired (usageOf u) vs ≡ false
+usage-none u vs e = rw e
+
+-- what stands between a place and itself
+pub text-none : (a e : ℕ) (x : Text) → a ≡ e → within a e x ≡ []
+text-none a e x h =
+    let z : e - a ≡ 0 = omega (arith, h) in
+    rw z
 
 -- too many repetitions; missing; else that of its filled repetitions
 module _ (q : Marks) (v : Field) (vs : List Field) (n : Text) (o : ℕ) where

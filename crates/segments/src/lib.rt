@@ -1,25 +1,36 @@
 // A segment's listed fields. Inner: the callers hold the table's rule, and that the segment has the name of its number.
 ghost use mathlib.Core.Path.{_≡_};
-ghost use Prim.Native.Nat.{_+_};
-ghost use lib.ListN.{getD};
+ghost use mathlib.Core.Bool.{true, false};
+ghost use Prim.Native.Nat.{_+_, _≤_};
+ghost use lib.ListN.{length, getD};
 ghost use Rattle.frame.specs.Segments.{field};
-ghost use Rattle.profile.specs.Numbers.{fieldColumn, tableOf};
+ghost use Rattle.profile.specs.Numbers.{rowSize, fieldColumn, usageColumn, usageOf, tableOf};
 ghost use Rattle.profile.specs.Order.{Sound};
 ghost use Rattle.codes.specs.Inner.{IsField};
+ghost use Rattle.checks.specs.Fault.{isRequired};
+ghost use Rattle.fields.specs.Flat.{isFlat};
 ghost use Rattle.listing.specs.Listing.{HasNumber};
+ghost use Rattle.usage.specs.Listed.{fieldsSeen};
 ghost use Rattle.segments.specs.Judged.{ReadsSegment, ReadsFieldAt, atRepetition};
 use checks::reasons;
+use codes::Rows;
 use codes::next_field;
 use codes::rows_under;
 use cursor::advance;
 use cursor::first_piece;
+use fields::flat_passes;
+use fields::is_flat;
 use fields::read_field;
 use located::fields_before;
 use located::fields_start;
 use located::leaf_rows;
 use profile::columns;
+use profile::numbers;
 use text::Marks;
 use usage::is_required;
+
+// The greatest limit of a type.
+const LONGEST: usize = 4096;
 
 // The reason of a segment's first broken check, 0 where there is none, and the place of it in the segment.
 pub struct Finding {
@@ -77,7 +88,68 @@ fn judge_field(
     }
 }
 
-// Reads a segment's listed fields, rising, each byte passed once on the way from field to field.
+// Whether a field is seen to break nothing: it stands in `text`, which has components at most, and has the rows from `at` up to `end`.
+pub fn text_passes(
+    s: &[u8],
+    text: &[u8],
+    q: Marks,
+    table: &[u16],
+    k: u16,
+    at: usize,
+    end: usize,
+) -> bool
+    requires { ⌜ Sound (now table) × HasNumber (now s) k ⌝ }
+    requires { ⌜ IsField (now table) k at end × (now text ≡ field q (now s) (getD (now table) (at + fieldColumn) 0)) ⌝ }
+    requires { ⌜ isFlat q (now text) ≡ true ⌝ }
+    ensures { λ r. ⌜ (r ≡ true → ReadsFieldAt q (now (table .entry)) (now (s .entry)) at end (atRepetition 0 0 0)) ⌝ }
+{
+    let mut leaves = Rows { start: at, end };
+    if numbers::NAMED_BY <= table[at + columns::TYPE] {
+        leaves = leaf_rows(s, q, table, k, at, end);
+    }
+    flat_passes(text, q, table, leaves)
+}
+
+// Whether a field of no bytes breaks nothing.
+pub fn may_be_empty(s: &[u8], q: Marks, table: &[u16], k: u16, at: usize) -> bool
+    requires { ⌜ Sound (now table) × HasNumber (now s) k ⌝ }
+    requires { ⌜ at + rowSize ≤ length (now table) ⌝ }
+    ensures { λ r. ⌜ (r ≡ true → isRequired (usageOf (getD (now (table .entry)) (at + usageColumn) 0)) (fieldsSeen (now (table .entry)) q (now (s .entry))) ≡ false) ⌝ }
+{
+    let usage = table[at + columns::USAGE];
+    if usage == numbers::OPTIONAL {
+        return true;
+    }
+    !is_required(s, q, table, k, usage)
+}
+
+// Whether any field is seen to break nothing. A text that is longer than every leaf may be is not looked at twice.
+fn field_passes(
+    s: &[u8],
+    text: &[u8],
+    q: Marks,
+    table: &[u16],
+    k: u16,
+    at: usize,
+    end: usize,
+) -> bool
+    requires { ⌜ Sound (now table) × HasNumber (now s) k ⌝ }
+    requires { ⌜ IsField (now table) k at end × (now text ≡ field q (now s) (getD (now table) (at + fieldColumn) 0)) ⌝ }
+    ensures { λ r. ⌜ (r ≡ true → ReadsFieldAt q (now (table .entry)) (now (s .entry)) at end (atRepetition 0 0 0)) ⌝ }
+{
+    if text.len() == 0 {
+        return may_be_empty(s, q, table, k, at);
+    }
+    if LONGEST < text.len() {
+        return false;
+    }
+    if !is_flat(q, text) {
+        return false;
+    }
+    text_passes(s, text, q, table, k, at, end)
+}
+
+// Reads a segment's listed fields, rising, each byte passed once on the way from field to field. Only a field that is not seen to pass is taken apart.
 pub fn read_segment(s: &[u8], q: Marks, table: &[u16], k: u16) -> Finding
     requires { ⌜ Sound (now table) × HasNumber (now s) k ⌝ }
     ensures { λ r. ⌜ ReadsSegment q (tableOf (now (table .entry))) (now (s .entry)) r ⌝ }
@@ -95,9 +167,12 @@ pub fn read_segment(s: &[u8], q: Marks, table: &[u16], k: u16) -> Finding
         cursor = advance(fields, q.field, true, cursor, number - before);
         let from = cursor.start;
         let to = cursor.end;
-        let r = judge_field(s, &fields[from..to], q, table, k, at, end);
-        if r.reason != reasons::NOTHING_BROKEN {
-            return r;
+        let text = &fields[from..to];
+        if !field_passes(s, text, q, table, k, at, end) {
+            let r = judge_field(s, text, q, table, k, at, end);
+            if r.reason != reasons::NOTHING_BROKEN {
+                return r;
+            }
         }
         at = end;
     }

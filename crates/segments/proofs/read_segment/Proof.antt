@@ -1,13 +1,18 @@
 -- `read_segment`: the first broken check of a segment's listed fields, told from the row where the loop stands.
-use mathlib.Core.Path.{refl}
+use mathlib.Core.Path.{_≡_, refl}
 use Prim.Native.Nat.{_+_, _-_}
 use native.Mathlib.Omega.{arith}
 use borrow.Author.Needs.{needs}
-use lib.ListN.{length}
+use borrow.Author.Tests.{not-false}
+use lib.ListN.{length, getD}
 use Rattle.text.specs.Bytes.{within}
-use Rattle.frame.specs.Segments.{name}
+use Rattle.frame.specs.Segments.{name, field}
 use Rattle.cursor.proofs.Moving.{cursor-inside}
 use Rattle.profile.specs.Numbers.{fieldColumn}
+use Rattle.profile.specs.Order.{Sound}
+use Rattle.codes.specs.Inner.{IsField}
+use Rattle.listing.specs.Listing.{HasNumber}
+use Rattle.segments.specs.Judged.{atRepetition}
 use Rattle.codes.proofs.Numbered.{named-number}
 use Rattle.usage.proofs.SegmentFields.{Ahead, ahead, ahead-row, ahead-falls}
 use Rattle.segments.proofs.FieldChecks.{FieldText}
@@ -61,8 +66,8 @@ advance-requires c κs =
     let l = d .before .before in
     (l .loop .inv .piece, low-number (l .loop .inv) (here d) (l .before .before .fields-before .ensures) .1)
 
-part-judge-field-end : tie.Need-part-judge-field-end Inv-loop μ-loop
-part-judge-field-end c = omega (arith, cursor-inside _ _ _ (c .advance .ensures .0))
+part-text-end : tie.Need-part-text-end Inv-loop μ-loop
+part-text-end c = omega (arith, cursor-inside _ _ _ (c .advance .ensures .0))
 
 -- the text of that field
 there : (v : tie.After-advance Inv-loop μ-loop)
@@ -78,28 +83,48 @@ there v =
     let b = l .before .before in
     text-there (l .loop .inv) (here d) (b .fields-before .ensures) (v .advance .ensures) (b .before .before .fields-start .ensures) refl
 
-judge-field-requires : tie.Need-judge-field-requires Inv-loop μ-loop
-judge-field-requires c κs =
-    let v = c .before in
+-- what both of its readers ask for
+asked : (v : tie.After-advance Inv-loop μ-loop)
+    → let d = v .before .before in
+    let l = d .before .before in
+    let f = l .before .before .before .before in
+    let a = f .before .before .before .before .args in
+    let x = within (v .advance .result .start) (v .advance .result .end) (within (f .fields-start .result) (length (a .s .now)) (a .s .now)) in
+    (Sound (a .table .now) × HasNumber (a .s .now) (a .k)) × (IsField (a .table .now) (a .k) (l .loop .at) (d .next-field .result) × (x ≡ field (a .q) (a .s .now) (getD (a .table .now) (l .loop .at + fieldColumn) 0)))
+asked v =
     let l = v .before .before .before .before in
     let t = there v in
     (l .before .before .before .before .before .before .before .before .pre, (t .rows, t .text))
 
+field-passes-requires : tie.Need-field-passes-requires Inv-loop μ-loop
+field-passes-requires c κs = asked (c .before)
+
+judge-field-requires : tie.Need-judge-field-requires Inv-loop μ-loop
+judge-field-requires c κs = asked (c .before .before .before)
+
 returns : tie.Need-returns Inv-loop μ-loop
 returns c =
     let j = c .before .before in
-    let v = j .before .before in
+    let v = j .before .before .before .before in
     let d = v .before .before in
     let l = d .before .before in
-    reading-found (l .loop .inv) (here d) (l .before .before .fields-before .ensures) (v .advance .ensures) (j .judge-field .result) (j .judge-field .ensures) (c .if1 .taken)
+    reading-found (l .loop .inv) (here d) (l .before .before .fields-before .ensures) (v .advance .ensures) (j .judge-field .result) (j .judge-field .ensures) (c .if2 .taken)
 
 loop-again : tie.Need-loop-again Inv-loop μ-loop
 loop-again c =
     let j = c .before .before in
-    let v = j .before .before in
+    let v = j .before .before .before .before in
     let d = v .before .before in
     let l = d .before .before in
-    reading-on (l .loop .inv) (here d) (l .before .before .fields-before .ensures) (v .advance .ensures) (j .judge-field .result) (j .judge-field .ensures) (c .if1 .left)
+    reading-on (l .loop .inv) (here d) (l .before .before .fields-before .ensures) (v .advance .ensures) (j .judge-field .result) (j .judge-field .ensures) (c .if2 .left)
+
+loop-again-2 : tie.Need-loop-again-2 Inv-loop μ-loop
+loop-again-2 c =
+    let p = c .before in
+    let v = p .before .before in
+    let d = v .before .before in
+    let l = d .before .before in
+    reading-on (l .loop .inv) (here d) (l .before .before .fields-before .ensures) (v .advance .ensures) (atRepetition 0 0 0) (p .field-passes .ensures (not-false _ (c .if1 .left))) refl
 
 pub read-segment-spec : {M : Type 1} → statement M
 read-segment-spec =
@@ -125,10 +150,13 @@ read-segment-spec =
     advance-requires
     (λ c. search needs)
     (λ c. search needs)
-    part-judge-field-end
+    part-text-end
+    field-passes-requires
     judge-field-requires
     returns
-    (λ c. ahead-falls (here (c .before .before .before .before .before .before)))
+    (λ c. ahead-falls (here (c .before .before .before .before .before .before .before .before)))
     loop-again
+    (λ c. ahead-falls (here (c .before .before .before .before .before)))
+    loop-again-2
     (λ c κs. search needs)
     (λ c. rw (c .at-repetition .ensures) (reading-none (c .before .before .loop .inv) (c .before .loop-test .left))))

@@ -16,10 +16,9 @@ use Rattle.profile.specs.Numbers.{fieldColumn}
 use Rattle.codes.proofs.Numbered.{named-number}
 use Rattle.usage.proofs.SegmentFields.{Ahead, ahead, ahead-row, ahead-falls}
 use Rattle.segments.specs.Judged.{atRepetition}
-use Rattle.segments.proofs.FieldChecks.{FieldText, none-passes}
+use Rattle.segments.proofs.FieldChecks.{FieldText, text-none, none-passes}
 use Rattle.segments.proofs.SegmentReading.{Reading, reading-first, low-number, text-there, reading-on, reading-none}
-use Rattle.passing.proofs.FlatField.{flat-within}
-use Rattle.passing.proofs.Bare.{text-none}
+use Rattle.fields.proofs.FlatField.{flat-within}
 use Rattle.passing.proofs.segment.segment_passes.Statement.{statement}
 use Rattle.passing.proofs.segment.segment_passes.Tie as tie
 

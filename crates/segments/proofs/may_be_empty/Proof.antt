@@ -3,9 +3,9 @@ use mathlib.Core.Path.{sym, _∙_}
 use native.Mathlib.Omega.{arith}
 use borrow.Author.Needs.{needs}
 use borrow.Author.Tests.{not-true}
-use Rattle.passing.proofs.Bare.{usage-none}
-use Rattle.passing.proofs.segment.may_be_empty.Statement.{statement}
-use Rattle.passing.proofs.segment.may_be_empty.Tie as tie
+use Rattle.segments.proofs.FieldChecks.{usage-none}
+use Rattle.segments.proofs.may_be_empty.Statement.{statement}
+use Rattle.segments.proofs.may_be_empty.Tie as tie
 
 returns : tie.Need-returns
 returns c e = usage-none _ _ (c .if1 .taken)

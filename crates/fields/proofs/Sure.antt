@@ -23,8 +23,8 @@ use Rattle.checks.specs.View.{Entry, entriesOf}
 use Rattle.checks.specs.Fault.{Check, accepted, leafChecks, repetitionChecks, firstBroken}
 use Rattle.leaves.specs.Judged.{ReadsRepetition}
 use Rattle.leaves.proofs.Breaks.{broken-flat}
-use Rattle.passing.specs.Flat.{isFlat, passedOnce}
-use Rattle.passing.proofs.FlatField.{Flat, flat, flat-plain, flat-within}
+use Rattle.fields.specs.Flat.{isFlat, passedOnce}
+use Rattle.fields.proofs.FlatField.{Flat, flat, flat-plain, flat-within}
 
 -- types and lists that take any text
 any-type : (k : Simple) (t : Text) → takesAny k ≡ true → ofType k t ≡ true

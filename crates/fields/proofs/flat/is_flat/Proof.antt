@@ -5,9 +5,9 @@ use Prim.Native.Nat.{_≤_, _-_}
 use mathlib.Core.Path.{_≡_, sym, _∙_}
 use mathlib.Core.Bool.{_&&_}
 use lib.ListN.{length, drop}
-use Rattle.passing.specs.Flat.{isPlain, isFlat}
-use Rattle.passing.proofs.flat.is_flat.Statement.{statement}
-use Rattle.passing.proofs.flat.is_flat.Tie as tie
+use Rattle.fields.specs.Flat.{isPlain, isFlat}
+use Rattle.fields.proofs.flat.is_flat.Statement.{statement}
+use Rattle.fields.proofs.flat.is_flat.Tie as tie
 
 abbrev Inv-loop : tie.InvT-loop
 Inv-loop q x ok₀ i₀ ok i = (i ≤ length x) × (ok && isFlat q (drop i x) ≡ isFlat q x)

@@ -8,15 +8,15 @@ use borrow.Author.Tests.{eqb-true, not-false}
 use lib.Dec.{eqb}
 use Rattle.profile.specs.Numbers.{componentColumn}
 use Rattle.checks.specs.Place.{place}
-use Rattle.passing.specs.Flat.{passedOnce}
+use Rattle.fields.specs.Flat.{passedOnce}
 use Rattle.leaves.proofs.Breaks.{told-none}
 use Rattle.text.specs.Bytes.{within}
 use Rattle.text.proofs.Tests.{not-true, both}
 use Rattle.cursor.proofs.Moving.{cursor-inside}
 use Rattle.leaves.proofs.LeafByLeaf.{Reading, reading-first, reading-number, reading-reason, reading-missing, reading-none}
-use Rattle.passing.proofs.FlatField.{flat-good, flat-on}
-use Rattle.passing.proofs.flat.leaves_pass.Statement.{statement}
-use Rattle.passing.proofs.flat.leaves_pass.Tie as tie
+use Rattle.fields.proofs.FlatField.{flat-good, flat-on}
+use Rattle.fields.proofs.flat.leaves_pass.Statement.{statement}
+use Rattle.fields.proofs.flat.leaves_pass.Tie as tie
 
 abbrev Inv-loop : tie.InvT-loop
 Inv-loop s q table filled₀ cursor₀ at₀ end filled cursor at = Reading s q table at₀ end (record { filled = filled; reason = 0; component = 0; subcomponent = 0 }) cursor at

@@ -10,9 +10,9 @@ use Rattle.codes.specs.Inner.{Lists}
 use Rattle.codes.proofs.OneField.{field-most}
 use Rattle.located.specs.Listed.{leavesOfField}
 use Rattle.located.proofs.FieldLeaves.{lists-own, lists-itself}
 use Rattle.segments.proofs.FieldChecks.{FieldText, judged-filled}
-use Rattle.passing.proofs.segment.text_passes.Statement.{statement}
-use Rattle.passing.proofs.segment.text_passes.Tie as tie
+use Rattle.segments.proofs.text_passes.Statement.{statement}
+use Rattle.segments.proofs.text_passes.Tie as tie
 
 shared-slice-read-if1 : tie.Need-shared-slice-read-if1
 shared-slice-read-if1 c = let w = c .before .before .before .before .pre .1 .0 .0 in omega (arith, w .some, w .inside)

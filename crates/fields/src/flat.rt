@@ -1,11 +1,12 @@
 // A field as most are: one repetition, no subcomponents, no escape. That it breaks nothing is seen in one go.
 ghost use mathlib.Core.Path.{_≡_};
 ghost use mathlib.Core.Bool.{true};
-ghost use Prim.Native.Nat.{ℕ, _≤_};
+ghost use Prim.Native.Nat.{ℕ, _-_, _≤_};
+ghost use Rattle.profile.specs.Numbers.{rowSize};
 ghost use Rattle.codes.specs.Inner.{Lists, leavesAt};
 ghost use Rattle.leaves.specs.Judged.{ReadsRepetition};
 ghost use Rattle.fields.specs.Judged.{ReadsField};
-ghost use Rattle.passing.specs.Flat.{isPlain, isFlat, passed, passedOnce};
+ghost use Rattle.fields.specs.Flat.{isPlain, isFlat, passed, passedOnce};
 use checks::reasons;
 use codes::Rows;
 use cursor::advance;
@@ -48,6 +49,26 @@ fn is_sure(s: &[u8], q: Marks, table: &[u16], rows: Rows) -> bool
     (s.len() <= table[at + columns::SURE] as usize) & (s[0] != q.component)
 }
 
+// Whether the one leaf that the field lists is seen to break nothing: it is the first component. Most fields list no other.
+fn one_leaf_passes(s: &[u8], q: Marks, table: &[u16], rows: Rows) -> bool
+    requires { ⌜ Lists (now table) rows (leavesAt (now table) rows) × (isFlat q (now s) ≡ true) ⌝ }
+    requires { ⌜ rows .end - rows .start ≡ rowSize ⌝ }
+    ensures { λ r. ⌜ (r ≡ true → ReadsRepetition q (leavesAt (now (table .entry)) rows) (now (s .entry)) passedOnce) ⌝ }
+{
+    let at = rows.start;
+    if (table[at + columns::COMPONENT] != 1) | (table[at + columns::SUBCOMPONENT] != 1) {
+        return false;
+    }
+    let first = first_piece(s, q.component, false);
+    let from = first.start;
+    let to = first.end;
+    let leaf = &s[from..to];
+    if leaf.len() == 0 {
+        return false;
+    }
+    leaf_reason(leaf, q, true, table, at) == reasons::NOTHING_BROKEN
+}
+
 // Whether the components are seen to be leaves that break nothing, some of them filled.
 fn leaves_pass(s: &[u8], q: Marks, table: &[u16], rows: Rows) -> bool
     requires { ⌜ Lists (now table) rows (leavesAt (now table) rows) × (isFlat q (now s) ≡ true) ⌝ }
@@ -88,6 +109,9 @@ pub fn flat_passes(x: &[u8], q: Marks, table: &[u16], rows: Rows) -> bool
 {
     if is_sure(x, q, table, rows) {
         return true;
+    }
+    if rows.end - rows.start == columns::ROW {
+        return one_leaf_passes(x, q, table, rows);
     }
     leaves_pass(x, q, table, rows)
 }

@@ -30,12 +30,12 @@ use Rattle.leaves.specs.declared.repetition.ReadRepetition.{ReadRepetition}
 use Rattle.checks.specs.Place.{Place, place}
 use Rattle.checks.specs.Fault.{leafChecks, firstBroken}
 use Rattle.leaves.specs.Judged.{told, ReadsRepetition}
 use Rattle.fields.specs.Judged.{ReadsField}
-use Rattle.passing.specs.Flat.{isPlain, isFlat, passed, passedOnce}
+use Rattle.fields.specs.Flat.{isPlain, isFlat, passed, passedOnce}
 use Rattle.leaves.proofs.LeafByLeaf.{Left, Reading, reading-judged}
 use Rattle.checks.proofs.Filled.{none-filled}
 use Rattle.leaves.proofs.Breaks.{told-none}
 use Rattle.fields.proofs.Repeats.{repeats-first, repeats-read, repeats-last}
 
 -- parts of a flat text are flat
 module _ (q : Marks) where

@@ -9,9 +9,9 @@ use borrow.Author.Tests as tests
 use borrow.Author.Tests.{leb-true, eqb-false}
 use Rattle.text.proofs.Tests.{both, not-true}
 use Rattle.profile.specs.Numbers.{sureColumn}
-use Rattle.passing.proofs.Sure.{sure-reads}
-use Rattle.passing.proofs.flat.is_sure.Statement.{statement}
-use Rattle.passing.proofs.flat.is_sure.Tie as tie
+use Rattle.fields.proofs.Sure.{sure-reads}
+use Rattle.fields.proofs.flat.is_sure.Statement.{statement}
+use Rattle.fields.proofs.flat.is_sure.Tie as tie
 
 add-result : tie.Need-add-result
 add-result c = search needs
