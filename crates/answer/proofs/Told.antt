@@ -10,14 +10,14 @@ use Rattle.text.specs.Puts.{Puts}
 use Rattle.text.specs.declared.refusal.Refusal.{Refusal}
 use Rattle.text.proofs.Answer.{told-refused}
 use Rattle.text.proofs.Puts.{puts-length, puts-head}
-use Rattle.line.specs.Line.{ended, refusedLine, answerText}
+use Rattle.line.specs.Line.{asLine, refusedLine, answerText}
 
 -- so many bytes from the front are that text
 abbrev pub Shows : ℕ → Text → Text → Type 0
 Shows n out t = (n ≤ length out) × (take n out ≡ t)
 
 -- a refusal: its line is put to the front
-pub shows-refused : (a : Answer Text) (r : Refusal) (before out : Text) (n : ℕ) → refused r ≡ reported a → Puts before 0 (ended (refusedLine r)) out n
+pub shows-refused : (a : Answer Text) (r : Refusal) (before out : Text) (n : ℕ) → refused r ≡ reported a → Puts before 0 (asLine (refusedLine r)) out n
     → Shows n out (answerText a)
 shows-refused a r before out n e p =
     (omega (arith, p .room, p .ends, puts-length p), puts-head p ∙ ap answerText (sym (told-refused length a r e)))

@@ -47,10 +47,24 @@ lookLine (given (Text-from-to a e)) = textLine a e
 abbrev pub newline : ℕ
 newline = 0x0A
 
-abbrev pub ended : Text → Text
-ended t = t ++ newline ∷ []
+abbrev pub asLine : Text → Text
+asLine t = t ++ newline ∷ []
 
 -- REPLYING: the reply as it is, CR and all; or refused and the number
 abbrev pub answerText : Answer Text → Text
-answerText (refused r) = ended (refusedLine r)
+answerText (refused r) = asLine (refusedLine r)
 answerText (given t) = t
+
+-- the bytes that a program lends for a line that tells a refusal or a look-up, and for one that tells a verdict; a number with the blank before it, and a
+-- place's words with theirs, take at most so many
+abbrev pub lookBuffer : ℕ
+lookBuffer = 64
+
+abbrev pub deskBuffer : ℕ
+deskBuffer = 192
+
+abbrev pub numberSize : ℕ
+numberSize = 21
+
+abbrev pub placeSize : ℕ
+placeSize = 109

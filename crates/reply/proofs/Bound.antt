@@ -25,7 +25,7 @@ use Rattle.profile.specs.Profile.{profile01}
 use Rattle.reader.specs.Place.{Place}
 use Rattle.reader.specs.Fault.{Verdict, accepted, fault, verdict, condition}
 use Rattle.heading.specs.Header.{headerLeaf, orEmpty, copiedHD, processing, headerFields, replyHeader}
-use Rattle.report.specs.Error.{code, orNone, placeText, conditionText, replyERR}
+use Rattle.report.specs.Error.{firstRejection, code, orNone, placeText, conditionText, replyERR}
 use Rattle.reply.specs.Reply.{control, noControl, replyMSA, replyText, longestReply}
 use Rattle.reply.proofs.Small.{Small, SmallVerdict, smallTable, profile-small, verdict-small}
 
@@ -155,7 +155,7 @@ control-length m e =
 
 code-length : (v : Verdict) → length (code v) ≤ 2
 code-length accepted = omega arith
-code-length (fault p n) = picks (Within 2) (ltb (condition n) 200) (omega arith) (omega arith)
+code-length (fault p n) = picks (Within 2) (ltb (condition n) firstRejection) (omega arith) (omega arith)
 
 msa-length : (m : Text) (v : Verdict) → length (control m) ≤ 20 → length (replyMSA m v) ≤ 27
 msa-length m v h = omega (arith, join-length (usual .field) (bytes "MSA" ∷ code v ∷ control m ∷ []), code-length v)
