@@ -1,10 +1,10 @@
 // The enquiry desk's reply: a message on standard input, the stamp and the reply number as arguments.
 ghost use Prim.Native.Nat.{_≤_};
-ghost use mathlib.Core.Path.{_≡_};
-ghost use lib.ListN.{length, take};
+ghost use lib.ListN.{length};
 ghost use Rattle.profile.specs.Profile.{profile01};
 ghost use Rattle.reply.specs.Reply.{reply};
-ghost use Rattle.line.specs.Line.{answerText, lookBuffer};
+ghost use Rattle.line.specs.Line.{answerText};
+ghost use Rattle.line.specs.Inner.{lookBuffer, Shows};
 use libc::STDIN_FILENO;
 use libc::STDOUT_FILENO;
 use reply::limits;
@@ -16,7 +16,7 @@ const LONGEST_ARGUMENT: usize = 32;
 // The reply as it is, or the line that tells a refusal.
 fn tell(m: &[u8], stamp: &[u8], number: &[u8], out: &mut [u8]) -> usize
     requires { ⌜ lookBuffer ≤ length (now out) ⌝ }
-    ensures { λ r. ⌜ (r ≤ length (now (out .exit))) × (take r (now (out .exit)) ≡ answerText (reply profile01 (now (m .entry)) (now (stamp .entry)) (now (number .entry)) (length (now (out .entry))))) ⌝ }
+    ensures { λ r. ⌜ Shows r (now (out .exit)) (answerText (reply profile01 (now (m .entry)) (now (stamp .entry)) (now (number .entry)) (length (now (out .entry))))) ⌝ }
 {
     match reply::reply(m, stamp, number, out) {
         Written::Refused(r) => line::refused_line(r, out),

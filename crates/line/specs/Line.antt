@@ -54,17 +54,3 @@ asLine t = t ++ newline ∷ []
 abbrev pub answerText : Answer Text → Text
 answerText (refused r) = asLine (refusedLine r)
 answerText (given t) = t
-
--- the bytes that a program lends for a line that tells a refusal or a look-up, and for one that tells a verdict; a number with the blank before it, and a
--- place's words with theirs, take at most so many
-abbrev pub lookBuffer : ℕ
-lookBuffer = 64
-
-abbrev pub deskBuffer : ℕ
-deskBuffer = 192
-
-abbrev pub numberSize : ℕ
-numberSize = 21
-
-abbrev pub placeSize : ℕ
-placeSize = 109

@@ -1,7 +1,6 @@
 // The lines that the desk's programs print. Inner: the program lends the bytes for a line (`sizes`).
 pub mod sizes;
 
-ghost use mathlib.Core.Path.{_≡_};
 ghost use Prim.Native.Nat.{_+_, _≤_};
 ghost use mathlib.Core.List.{_∷_};
 ghost use lib.ListN.{length};
@@ -10,7 +9,8 @@ ghost use Rattle.text.specs.Decimal.{decimal};
 ghost use Rattle.text.specs.Puts.{Puts};
 ghost use Rattle.parts.specs.Split.{led};
 ghost use Rattle.reader.specs.Told.{placeOf, foundOf, verdictOf};
-ghost use Rattle.line.specs.Line.{refusedLine, placeWords, faultLine, deskLine, textLine, lookLine, asLine, lookBuffer, deskBuffer, numberSize, placeSize};
+ghost use Rattle.line.specs.Line.{refusedLine, placeWords, faultLine, deskLine, textLine, lookLine, asLine};
+ghost use Rattle.line.specs.Inner.{lookBuffer, deskBuffer, numberSize, placeSize, PutsWithin};
 use reader::Fault;
 use reader::Found;
 use reader::Place;
@@ -57,8 +57,7 @@ pub fn look_line(f: Found, out: &mut [u8]) -> usize
 // A blank and a number behind it.
 fn put_number(out: &mut [u8], at: usize, n: u64) -> usize
     requires { ⌜ at + numberSize ≤ length (now out) ⌝ }
-    ensures { λ r. ⌜ Puts (now (out .entry)) at (byte " " ∷ decimal n) (now (out .exit)) r ⌝ }
-    ensures { λ r. ⌜ (r ≤ at + numberSize) × (length (now (out .exit)) ≡ length (now (out .entry))) ⌝ }
+    ensures { λ r. ⌜ PutsWithin numberSize (now (out .entry)) at (byte " " ∷ decimal n) (now (out .exit)) r ⌝ }
 {
     let a = put(out, at, b" ");
     put_decimal(out, a, n)
@@ -67,8 +66,7 @@ fn put_number(out: &mut [u8], at: usize, n: u64) -> usize
 // A place's name and five numbers, a blank before each.
 fn put_place(out: &mut [u8], at: usize, p: Place) -> usize
     requires { ⌜ at + placeSize ≤ length (now out) ⌝ }
-    ensures { λ r. ⌜ Puts (now (out .entry)) at (led (byte " ") (placeWords (placeOf p))) (now (out .exit)) r ⌝ }
-    ensures { λ r. ⌜ (r ≤ at + placeSize) × (length (now (out .exit)) ≡ length (now (out .entry))) ⌝ }
+    ensures { λ r. ⌜ PutsWithin placeSize (now (out .entry)) at (led (byte " ") (placeWords (placeOf p))) (now (out .exit)) r ⌝ }
 {
     let name = [b' ', p.first, p.second, p.third];
     let a = put(out, at, &name);

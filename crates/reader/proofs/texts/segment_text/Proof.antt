@@ -1,5 +1,4 @@
 -- `segment_text`: no bytes, or those from its start up to its end.
-use mathlib.Core.Path.{sym}
 use native.Mathlib.Omega.{arith}
 use borrow.Author.Needs.{needs}
 use Rattle.reader.proofs.Copied.{stood-inside}
