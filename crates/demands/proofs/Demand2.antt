@@ -37,7 +37,7 @@ use Rattle.reader.proofs.Part.{looked-up-text}
 use Rattle.reader.proofs.Accepted.{judged-accepted, accepted-judged, judged-fault}
 use Rattle.reader.proofs.Reasons.{fault-reason01}
 use Rattle.reader.proofs.Unique.{verdict-same}
-use Rattle.reply.specs.Reply.{noControl, replyText, replyTests, reply}
+use Rattle.reply.specs.Reply.{noControl, replyText, longestReply, replyTests, reply}
 use Rattle.reply.specs.Promise.{Replies}
 use Rattle.reply.proofs.Bound.{reply-bound}
 use Rattle.slip.specs.Slot.{slotSize, noSlot}
@@ -136,7 +136,7 @@ resolves t before after n h =
 
 -- a reply was written only for a stamp, a reply number and a control number that are good, and where there is room
 bounded : (m stamp number : Text) (room : ℕ) → passes (replyTests profile01 m stamp number room) ≡ true
-    → (ltb room (length (replyText profile01 m stamp number)) ≡ false) × (length (replyText profile01 m stamp number) ≤ 1200)
+    → (ltb room (length (replyText profile01 m stamp number)) ≡ false) × (length (replyText profile01 m stamp number) ≤ longestReply)
 unfolding passes
 bounded m stamp number room e =
     let s = passes-rest _ _ (passes-both (frameTests m) _ e .1) in
@@ -148,7 +148,7 @@ bounded m stamp number room e =
     )
 
 replies : (m stamp number before after : Text) (n : ℕ) → Replies profile01 m stamp number before (Bytes n) after
-    → Wrote (replyText profile01 m stamp number) before after n × (n ≤ 1200)
+    → Wrote (replyText profile01 m stamp number) before after n × (n ≤ longestReply)
 unfolding reply
 replies m stamp number before after n h =
     let ts = replyTests profile01 m stamp number (length before) in

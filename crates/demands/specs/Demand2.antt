@@ -29,7 +29,7 @@ use Rattle.reader.specs.Fault.{checks, noneBroken, FirstBroken, condition}
 use Rattle.reader.specs.Told.{placeOf}
 use Rattle.reader.specs.Part.{VeryPart}
 use Rattle.reader.specs.Promise.{LooksUp, Judges}
-use Rattle.reply.specs.Reply.{replyText}
+use Rattle.reply.specs.Reply.{replyText, longestReply}
 use Rattle.reply.specs.Promise.{Replies}
 use Rattle.slip.specs.declared.Filed.the-variants.{Slip}
 use Rattle.slip.specs.Slot.{slotSize}
@@ -95,7 +95,7 @@ pub record Demand2 : Type 0 where
   pub resolves : (t before after : Text) (n : ℕ) → Resolves t before (Bytes n) after → Wrote (resolved usual t) before after n
   pub replies :
       (m stamp number before after : Text) (n : ℕ) → Replies profile01 m stamp number before (Bytes n) after
-      → Wrote (replyText profile01 m stamp number) before after n × (n ≤ 1200)
+      → Wrote (replyText profile01 m stamp number) before after n × (n ≤ longestReply)
   -- THE BYTES of a slip
   pub files :
       (m : Text) (g k : ℕ) (before after : Text) → Files profile01 m g k before Slip after → slot after k ≡ slipText m g

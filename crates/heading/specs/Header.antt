@@ -22,14 +22,12 @@ abbrev pub orEmpty : Marks → ℕ → Text → Text
 orEmpty q limit t = pick (tooLong limit t || badEscape q t) [] t
 
 -- an HD as it is copied: three components
+abbrev pub hdOf : Marks → Text → Text → Text → Text
+hdOf q a b c =
+    join (usual .component) (trimmed (orEmpty q (limitOf IS) a ∷ orEmpty q (limitOf ST) b ∷ orEmpty q (limitOf ID) c ∷ []))
+
 unfoldable pub copiedHD : Text → ℕ → Text
-copiedHD m f =
-    join (usual .component)
-    (trimmed
-    (orEmpty (marksOf m) (limitOf IS) (headerLeaf m f 1)
-    ∷ orEmpty (marksOf m) (limitOf ST) (headerLeaf m f 2)
-    ∷ orEmpty (marksOf m) (limitOf ID) (headerLeaf m f 3)
-    ∷ []))
+copiedHD m f = hdOf (marksOf m) (headerLeaf m f 1) (headerLeaf m f 2) (headerLeaf m f 3)
 
 -- MSH-11.1 not in its list becomes P
 abbrev pub processing : Text → Text

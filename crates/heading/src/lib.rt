@@ -1,4 +1,7 @@
-// The reply's header: fixed bytes, and leaves of the message's own header.
+// The reply's header: fixed bytes, and leaves of the message's own header. That header is handed down as what stands of it from a field on, so that no field
+// is sought twice.
+pub mod copied;
+
 ghost use mathlib.Core.Path.{_≡_};
 ghost use mathlib.Core.Bool.{_||_};
 ghost use mathlib.Core.List.{[], _∷_, _++_};
@@ -8,12 +11,15 @@ ghost use Rattle.text.specs.Bytes.{pick, byte, cr};
 ghost use Rattle.escape.specs.Escape.{badEscape};
 ghost use Rattle.text.specs.Puts.{Puts};
 ghost use Rattle.text.specs.Limits.{tooLong};
-ghost use Rattle.heading.specs.Header.{orEmpty, copiedHD, processing, replyHeader};
-ghost use Rattle.heading.specs.Inner.{IsHeader, ended};
+ghost use Rattle.reader.specs.FromField.{firstLeaf};
+ghost use Rattle.heading.specs.Header.{orEmpty, processing, replyHeader};
+ghost use Rattle.heading.specs.Inner.{HeaderFrom, Opened, withSeparator, hdThere, parties};
 use escape::bad_escape;
-use reader::Standing;
+use reader::behind;
+use reader::field_leaf;
+use reader::first_leaf;
+use reader::first_repetition;
 use reader::is_processing_id;
-use reader::text_in;
 use text::Marks;
 use text::marks_of;
 use text::put;
@@ -25,14 +31,15 @@ pub fn is_unfit(q: Marks, limit: usize, t: &[u8]) -> bool
     (limit < t.len()) | bad_escape(q, t)
 }
 
-// A leaf as it is copied: no bytes where it is unfit.
+// The first leaf of the components that stand there as it is copied: no bytes where it is unfit.
 fn or_empty<'a>(q: Marks, limit: usize, t: &'a [u8]) -> &'a [u8]
-    ensures { λ r. ⌜ now r ≡ orEmpty q limit (now (t .entry)) ⌝ }
+    ensures { λ r. ⌜ now r ≡ orEmpty q limit (firstLeaf q (now (t .entry))) ⌝ }
 {
-    if is_unfit(q, limit, t) {
-        return &t[0..0];
+    let leaf = first_leaf(t, q);
+    if is_unfit(q, limit, leaf) {
+        return &leaf[0..0];
     }
-    t
+    leaf
 }
 
 // A component behind its separator; nothing where neither it nor a later one is filled.
@@ -47,20 +54,37 @@ fn put_component(out: &mut [u8], at: usize, wanted: bool, t: &[u8]) -> usize
     put(out, a, t)
 }
 
-// An HD of the message's header as it is copied, and the separator behind it.
-fn put_hd(out: &mut [u8], at: usize, m: &[u8], header: Standing, field: u64) -> usize
-    requires { ⌜ IsHeader (now m) header × (1 ≤ field) ⌝ }
-    requires { ⌜ at + length (ended (copiedHD (now m) field)) ≤ length (now out) ⌝ }
-    ensures { λ r. ⌜ Puts (now (out .entry)) at (ended (copiedHD (now (m .entry)) field)) (now (out .exit)) r ⌝ }
+// The first of those fields, an HD, as it is copied, and the separator behind it.
+fn put_hd(out: &mut [u8], at: usize, q: Marks, fields: &[u8]) -> usize
+    requires { ⌜ at + length (withSeparator (hdThere q (now fields))) ≤ length (now out) ⌝ }
+    ensures { λ r. ⌜ Puts (now (out .entry)) at (withSeparator (hdThere q (now (fields .entry)))) (now (out .exit)) r ⌝ }
 {
-    let q = marks_of(m);
-    let first = or_empty(q, 20, text_in(m, header, field, 1));
-    let second = or_empty(q, 199, text_in(m, header, field, 2));
-    let third = or_empty(q, 20, text_in(m, header, field, 3));
+    let components = first_repetition(fields, q);
+    let later = behind(components, q.component, 1);
+    let last = behind(later, q.component, 1);
+    let first = or_empty(q, copied::IS_LIMIT, components);
+    let second = or_empty(q, copied::ST_LIMIT, later);
+    let third = or_empty(q, copied::ID_LIMIT, last);
     let a = put(out, at, first);
     let b = put_component(out, a, (0 < third.len()) | (0 < second.len()), second);
     let c = put_component(out, b, 0 < third.len(), third);
     put(out, c, b"|")
+}
+
+// The reply's parties, of the message's header from MSH-3 on: its receiver, MSH-5 and MSH-6, then its sender, MSH-3 and MSH-4.
+fn put_parties(out: &mut [u8], at: usize, m: &[u8], third: &[u8]) -> usize
+    requires { ⌜ HeaderFrom (now m) 3 (now third) ⌝ }
+    requires { ⌜ at + length (parties (now m)) ≤ length (now out) ⌝ }
+    ensures { λ r. ⌜ Puts (now (out .entry)) at (parties (now (m .entry))) (now (out .exit)) r ⌝ }
+{
+    let q = marks_of(m);
+    let fourth = behind(third, q.field, 1);
+    let fifth = behind(fourth, q.field, 1);
+    let sixth = behind(fifth, q.field, 1);
+    let a = put_hd(out, at, q, fifth);
+    let b = put_hd(out, a, q, sixth);
+    let c = put_hd(out, b, q, third);
+    put_hd(out, c, q, fourth)
 }
 
 // MSH-11.1, or P where it is not in its list.
@@ -74,21 +98,27 @@ fn put_processing(out: &mut [u8], at: usize, t: &[u8]) -> usize
     put(out, at, b"P")
 }
 
-// The reply's header with its CR.
-pub fn put_header(out: &mut [u8], m: &[u8], header: Standing, stamp: &[u8], number: &[u8]) -> usize
-    requires { ⌜ IsHeader (now m) header ⌝ }
+// The reply's header with its CR, of the message's header from MSH-3 on and from MSH-10 on.
+pub fn put_header(
+    out: &mut [u8],
+    m: &[u8],
+    third: &[u8],
+    tenth: &[u8],
+    stamp: &[u8],
+    number: &[u8],
+) -> usize
+    requires { ⌜ Opened (now m) (now third) (now tenth) ⌝ }
     requires { ⌜ length (replyHeader (now m) (now stamp) (now number) ++ cr ∷ []) ≤ length (now out) ⌝ }
     ensures { λ r. ⌜ Puts (now (out .entry)) 0 (replyHeader (now (m .entry)) (now (stamp .entry)) (now (number .entry)) ++ cr ∷ []) (now (out .exit)) r ⌝ }
 {
+    let q = marks_of(m);
+    let processing = field_leaf(behind(tenth, q.field, 1), q);
     let a = put(out, 0, b"MSH|^~\\&|");
-    let b = put_hd(out, a, m, header, 5);
-    let c = put_hd(out, b, m, header, 6);
-    let d = put_hd(out, c, m, header, 3);
-    let e = put_hd(out, d, m, header, 4);
-    let f = put(out, e, stamp);
-    let g = put(out, f, b"||ACK^R01^ACK|");
-    let h = put(out, g, number);
-    let i = put(out, h, b"|");
-    let j = put_processing(out, i, text_in(m, header, 11, 1));
-    put(out, j, b"|2.5.1\r")
+    let b = put_parties(out, a, m, third);
+    let c = put(out, b, stamp);
+    let d = put(out, c, b"||ACK^R01^ACK|");
+    let e = put(out, d, number);
+    let f = put(out, e, b"|");
+    let g = put_processing(out, f, processing);
+    put(out, g, b"|2.5.1\r")
 }

@@ -4,7 +4,7 @@ use mathlib.Core.List.{[], _∷_, _++_}
 use lib.Dec.{eqb, ltb}
 use Rattle.text.specs.Bytes.{Text, pick, byte}
 use Rattle.text.specs.Answer.{Answer, refused, given}
-use Rattle.line.specs.Line.{newline, ended, refusedLine}
+use Rattle.line.specs.Line.{newline, asLine, refusedLine}
 
 abbrev pub hexDigit : ℕ → ℕ
 hexDigit n = pick (ltb n 10) (byte "0" + n) (byte "A" + (n - 10))
@@ -26,5 +26,5 @@ hexLines t = hexFrom 0 t
 
 -- FILING as it is printed: the slip's lines, or the refusal
 abbrev pub slipLines : Answer Text → Text
-slipLines (refused r) = ended (refusedLine r)
+slipLines (refused r) = asLine (refusedLine r)
 slipLines (given slip) = hexLines slip

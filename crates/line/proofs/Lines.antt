@@ -7,10 +7,10 @@ use Rattle.text.specs.Decimal.{decimal}
 use Rattle.parts.specs.Split.{led, join}
 use Rattle.reader.specs.Place.{Place}
 use Rattle.reader.specs.Fault.{condition}
-use Rattle.line.specs.Line.{placeWords, faultLine, textLine, newline, ended}
+use Rattle.line.specs.Line.{placeWords, faultLine, textLine, newline, asLine}
 
 pub text-written : (a e : ℕ)
-    → (((bytes "text " ++ decimal a) ++ bytes " ") ++ decimal e) ++ newline ∷ [] ≡ ended (textLine a e)
+    → (((bytes "text " ++ decimal a) ++ bytes " ") ++ decimal e) ++ newline ∷ [] ≡ asLine (textLine a e)
 unfolding textLine join led
 text-written a e =
     simp (append-assoc, append-nil)
@@ -30,7 +30,7 @@ led-more sep (p ∷ ps) qs = ap (λ (l : Text). sep ∷ p ++ l) (led-more sep ps
 
 words-written : (w : List Text) (k n : Text)
     → (((bytes "fault" ++ led (byte " ") w) ++ (byte " " ∷ k)) ++ (byte " " ∷ n)) ++ newline ∷ []
-    ≡ ended (join (byte " ") (bytes "fault" ∷ w ++ k ∷ n ∷ []))
+    ≡ asLine (join (byte " ") (bytes "fault" ∷ w ++ k ∷ n ∷ []))
 unfolding led join
 words-written w k n =
     rw (led-more (byte " ") w (k ∷ n ∷ []))
@@ -40,6 +40,6 @@ words-written w k n =
 -- a fault's line: the word, the place's words, the condition and the reason
 pub fault-written : (p : Place) (n : ℕ)
     → (((bytes "fault" ++ led (byte " ") (placeWords p)) ++ (byte " " ∷ decimal (condition n))) ++ (byte " " ∷ decimal n)) ++ newline ∷ []
-    ≡ ended (faultLine p n)
+    ≡ asLine (faultLine p n)
 unfolding faultLine
 fault-written p n = words-written (placeWords p) (decimal (condition n)) (decimal n)

@@ -47,10 +47,10 @@ lookLine (given (Text-from-to a e)) = textLine a e
 abbrev pub newline : ℕ
 newline = 0x0A
 
-abbrev pub ended : Text → Text
-ended t = t ++ newline ∷ []
+abbrev pub asLine : Text → Text
+asLine t = t ++ newline ∷ []
 
 -- REPLYING: the reply as it is, CR and all; or refused and the number
 abbrev pub answerText : Answer Text → Text
-answerText (refused r) = ended (refusedLine r)
+answerText (refused r) = asLine (refusedLine r)
 answerText (given t) = t

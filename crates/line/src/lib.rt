@@ -1,5 +1,6 @@
-// The lines that the desk's programs print.
-ghost use mathlib.Core.Path.{_≡_};
+// The lines that the desk's programs print. Inner: the program lends the bytes for a line (`sizes`).
+pub mod sizes;
+
 ghost use Prim.Native.Nat.{_+_, _≤_};
 ghost use mathlib.Core.List.{_∷_};
 ghost use lib.ListN.{length};
@@ -8,7 +9,8 @@ ghost use Rattle.text.specs.Decimal.{decimal};
 ghost use Rattle.text.specs.Puts.{Puts};
 ghost use Rattle.parts.specs.Split.{led};
 ghost use Rattle.reader.specs.Told.{placeOf, foundOf, verdictOf};
-ghost use Rattle.line.specs.Line.{refusedLine, placeWords, faultLine, deskLine, textLine, lookLine, ended};
+ghost use Rattle.line.specs.Line.{refusedLine, placeWords, faultLine, deskLine, textLine, lookLine, asLine};
+ghost use Rattle.line.specs.Inner.{lookBuffer, deskBuffer, numberSize, placeSize, PutsWithin};
 use reader::Fault;
 use reader::Found;
 use reader::Place;
@@ -19,10 +21,10 @@ use text::number;
 use text::put;
 use text::put_decimal;
 
-// The line that tells a refusal. Inner: the program lends 64 bytes.
+// The line that tells a refusal.
 pub fn refused_line(r: Refusal, out: &mut [u8]) -> usize
-    requires { ⌜ 64 ≤ length (now out) ⌝ }
-    ensures { λ k. ⌜ Puts (now (out .entry)) 0 (ended (refusedLine r)) (now (out .exit)) k ⌝ }
+    requires { ⌜ lookBuffer ≤ length (now out) ⌝ }
+    ensures { λ k. ⌜ Puts (now (out .entry)) 0 (asLine (refusedLine r)) (now (out .exit)) k ⌝ }
 {
     let a = put(out, 0, b"refused ");
     let b = put_decimal(out, a, number(r) as u64);
@@ -30,8 +32,8 @@ pub fn refused_line(r: Refusal, out: &mut [u8]) -> usize
 }
 
 fn text_line(start: usize, end: usize, out: &mut [u8]) -> usize
-    requires { ⌜ 64 ≤ length (now out) ⌝ }
-    ensures { λ k. ⌜ Puts (now (out .entry)) 0 (ended (textLine start end)) (now (out .exit)) k ⌝ }
+    requires { ⌜ lookBuffer ≤ length (now out) ⌝ }
+    ensures { λ k. ⌜ Puts (now (out .entry)) 0 (asLine (textLine start end)) (now (out .exit)) k ⌝ }
 {
     let a = put(out, 0, b"text ");
     let b = put_decimal(out, a, start as u64);
@@ -40,10 +42,10 @@ fn text_line(start: usize, end: usize, out: &mut [u8]) -> usize
     put(out, d, b"\n")
 }
 
-// The line that tells what a look-up found. Inner: the program lends 64 bytes, and no such line is longer than 47.
+// The line that tells what a look-up found.
 pub fn look_line(f: Found, out: &mut [u8]) -> usize
-    requires { ⌜ 64 ≤ length (now out) ⌝ }
-    ensures { λ r. ⌜ Puts (now (out .entry)) 0 (ended (lookLine (foundOf f))) (now (out .exit)) r ⌝ }
+    requires { ⌜ lookBuffer ≤ length (now out) ⌝ }
+    ensures { λ r. ⌜ Puts (now (out .entry)) 0 (asLine (lookLine (foundOf f))) (now (out .exit)) r ⌝ }
 {
     match f {
         Found::Refused(r) => refused_line(r, out),
@@ -54,9 +56,8 @@ pub fn look_line(f: Found, out: &mut [u8]) -> usize
 
 // A blank and a number behind it.
 fn put_number(out: &mut [u8], at: usize, n: u64) -> usize
-    requires { ⌜ at + 21 ≤ length (now out) ⌝ }
-    ensures { λ r. ⌜ Puts (now (out .entry)) at (byte " " ∷ decimal n) (now (out .exit)) r ⌝ }
-    ensures { λ r. ⌜ (r ≤ at + 21) × (length (now (out .exit)) ≡ length (now (out .entry))) ⌝ }
+    requires { ⌜ at + numberSize ≤ length (now out) ⌝ }
+    ensures { λ r. ⌜ PutsWithin numberSize (now (out .entry)) at (byte " " ∷ decimal n) (now (out .exit)) r ⌝ }
 {
     let a = put(out, at, b" ");
     put_decimal(out, a, n)
@@ -64,9 +65,8 @@ fn put_number(out: &mut [u8], at: usize, n: u64) -> usize
 
 // A place's name and five numbers, a blank before each.
 fn put_place(out: &mut [u8], at: usize, p: Place) -> usize
-    requires { ⌜ at + 109 ≤ length (now out) ⌝ }
-    ensures { λ r. ⌜ Puts (now (out .entry)) at (led (byte " ") (placeWords (placeOf p))) (now (out .exit)) r ⌝ }
-    ensures { λ r. ⌜ (r ≤ at + 109) × (length (now (out .exit)) ≡ length (now (out .entry))) ⌝ }
+    requires { ⌜ at + placeSize ≤ length (now out) ⌝ }
+    ensures { λ r. ⌜ PutsWithin placeSize (now (out .entry)) at (led (byte " ") (placeWords (placeOf p))) (now (out .exit)) r ⌝ }
 {
     let name = [b' ', p.first, p.second, p.third];
     let a = put(out, at, &name);
@@ -78,8 +78,8 @@ fn put_place(out: &mut [u8], at: usize, p: Place) -> usize
 }
 
 fn fault_line(f: Fault, out: &mut [u8]) -> usize
-    requires { ⌜ 192 ≤ length (now out) ⌝ }
-    ensures { λ k. ⌜ Puts (now (out .entry)) 0 (ended (faultLine (placeOf (f .place)) (f .reason))) (now (out .exit)) k ⌝ }
+    requires { ⌜ deskBuffer ≤ length (now out) ⌝ }
+    ensures { λ k. ⌜ Puts (now (out .entry)) 0 (asLine (faultLine (placeOf (f .place)) (f .reason))) (now (out .exit)) k ⌝ }
 {
     let a = put(out, 0, b"fault");
     let b = put_place(out, a, f.place);
@@ -88,10 +88,10 @@ fn fault_line(f: Fault, out: &mut [u8]) -> usize
     put(out, d, b"\n")
 }
 
-// The line that tells how a message is judged. Inner: the program lends 192 bytes, and no such line is longer than 123.
+// The line that tells how a message is judged.
 pub fn desk_line(v: Verdict, out: &mut [u8]) -> usize
-    requires { ⌜ 192 ≤ length (now out) ⌝ }
-    ensures { λ r. ⌜ Puts (now (out .entry)) 0 (ended (deskLine (verdictOf v))) (now (out .exit)) r ⌝ }
+    requires { ⌜ deskBuffer ≤ length (now out) ⌝ }
+    ensures { λ r. ⌜ Puts (now (out .entry)) 0 (asLine (deskLine (verdictOf v))) (now (out .exit)) r ⌝ }
 {
     match v {
         Verdict::Refused(r) => refused_line(r, out),

@@ -1,3 +1,4 @@
+pub use Rattle.cutting.proofs.Cutting
 pub use Rattle.seek.proofs.Lying
 pub use Rattle.checks.proofs.Stands
 pub use Rattle.checks.proofs.Filled

@@ -6,6 +6,10 @@ mod standing;
 mod texts;
 
 pub use checks::condition;
+pub use cutting::behind;
+pub use cutting::field_leaf;
+pub use cutting::first_leaf;
+pub use cutting::first_repetition;
 pub use groups::observations;
 pub use judging::judge;
 pub use search::LookedUp;
@@ -14,6 +18,7 @@ pub use search::look_up;
 pub use standing::Standing;
 pub use standing::occurrence;
 use text::Refusal;
+pub use texts::fields_in;
 pub use texts::is_processing_id;
 pub use texts::text_in;
 

@@ -25,8 +25,8 @@ use Rattle.profile.specs.Profile.{profile01}
 use Rattle.reader.specs.Place.{Place}
 use Rattle.reader.specs.Fault.{Verdict, accepted, fault, verdict, condition}
 use Rattle.heading.specs.Header.{headerLeaf, orEmpty, copiedHD, processing, headerFields, replyHeader}
-use Rattle.report.specs.Error.{code, orNone, placeText, conditionText, replyERR}
-use Rattle.reply.specs.Reply.{control, noControl, replyMSA, replyText}
+use Rattle.report.specs.Error.{firstRejection, code, orNone, placeText, conditionText, replyERR}
+use Rattle.reply.specs.Reply.{control, noControl, replyMSA, replyText, longestReply}
 use Rattle.reply.proofs.Small.{Small, SmallVerdict, smallTable, profile-small, verdict-small}
 
 abbrev Within : ℕ → Text → Type 0
@@ -155,7 +155,7 @@ control-length m e =
 
 code-length : (v : Verdict) → length (code v) ≤ 2
 code-length accepted = omega arith
-code-length (fault p n) = picks (Within 2) (ltb (condition n) 200) (omega arith) (omega arith)
+code-length (fault p n) = picks (Within 2) (ltb (condition n) firstRejection) (omega arith) (omega arith)
 
 msa-length : (m : Text) (v : Verdict) → length (control m) ≤ 20 → length (replyMSA m v) ≤ 27
 msa-length m v h = omega (arith, join-length (usual .field) (bytes "MSA" ∷ code v ∷ control m ∷ []), code-length v)
@@ -220,7 +220,7 @@ err-length (fault p n) s =
 -- 6. The reply, by any table of small numbers: at most 1,034, 28 and 103 bytes with their CR
 reply-length : (T : Table) → smallTable T ≡ true → (m stamp number : Text)
     → isStamp stamp ≡ true → isReplyNumber number ≡ true → noControl m ≡ false
-    → length (replyText T m stamp number) ≤ 1200
+    → length (replyText T m stamp number) ≤ longestReply
 unfolding replyText
 reply-length T ok m stamp number s n c =
     let v = verdict T m in
@@ -234,5 +234,5 @@ reply-length T ok m stamp number s n c =
 
 -- NO REPLY EXCEEDS 1,200 BYTES
 pub reply-bound : (m stamp number : Text) → isStamp stamp ≡ true → isReplyNumber number ≡ true → noControl m ≡ false
-    → length (replyText profile01 m stamp number) ≤ 1200
+    → length (replyText profile01 m stamp number) ≤ longestReply
 reply-bound m stamp number s n c = reply-length profile01 profile-small m stamp number s n c

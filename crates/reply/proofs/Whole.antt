@@ -2,14 +2,14 @@
 use mathlib.Core.Path.{_≡_, refl, sym, ap, _∙_}
 use Prim.Native.Nat.{ℕ, _+_, _-_, _≤_, _<_}
 use native.Mathlib.Omega.{arith}
-use mathlib.Core.Bool.{Bool, true, false, not}
+use mathlib.Core.Bool.{true, false}
 use mathlib.Core.Logic.{⊎-elim}
 use mathlib.Core.List.{List, [], _∷_, _++_, append-assoc, append-nil}
 use lib.ListN.{length, length-append}
 use lib.Dec.{ltb}
 use types.Run.{OneOf}
 use denote.Enum.Declared.{tagOf}
-use borrow.Author.Tests.{lt-ltb, le-ltb, not-true, not-false}
+use borrow.Author.Tests.{lt-ltb, le-ltb}
 use Rattle.text.specs.Bytes.{Text, pick, bytes, cr, within}
 use Rattle.types.specs.Types.{isStamp, isReplyNumber}
 use Rattle.text.specs.Answer.{Answer, refused, given, first, tell}
@@ -34,7 +34,7 @@ use Rattle.report.specs.Error as error
 use Rattle.report.specs.Error.{replyERR}
 use Rattle.report.specs.Inner.{codeOf, errorOf}
 use Rattle.reply.specs.Reply as spec
-use Rattle.reply.specs.Reply.{control, noControl, replyMSA, replyText, ownTests}
+use Rattle.reply.specs.Reply.{control, noControl, replyMSA, replyText, longestReply, ownTests}
 use Rattle.reply.specs.Inner.{ownReply, Acknowledges}
 use Rattle.reply.specs.Promise.{Replies}
 use Rattle.reply.proofs.Bound.{reply-bound}
@@ -87,6 +87,12 @@ module _ (m stamp number : Text) (v : code-verdict.Verdict) (e : verdictOf v ≡
         → Puts before 0 (replyText profile01 m stamp number) after r
     reply-put q = rw reply-written at (puts-both p q)
 
+-- stamp, reply number and control number are as they must be
+pub record Fit (m stamp number : Text) : Type 0 where
+  pub stamped : isStamp stamp ≡ true
+  pub numbered : isReplyNumber number ≡ true
+  pub controlled : noControl m ≡ false
+
 -- THE WAYS OUT where the frame is good
 module _ (m stamp number before : Text) where
   abbrev t : Text
@@ -98,44 +104,40 @@ module _ (m stamp number before : Text) where
   own-refused : (x : Refusal) → own ≡ refused x → Acknowledges m stamp number before (written.Refused x) before
   own-refused x e = record { answer = rw e; buffer = rw e }
 
-  module _ {s : Bool} (told : s ≡ isStamp stamp) where
-    pub acknowledges-stamp : not s ≡ true → Acknowledges m stamp number before (written.Refused BadStamp) before
+  pub acknowledges-stamp : isStamp stamp ≡ false → Acknowledges m stamp number before (written.Refused BadStamp) before
+  unfolding first
+  acknowledges-stamp h = own-refused BadStamp (rw h)
+
+  pub acknowledges-number : isStamp stamp ≡ true → isReplyNumber number ≡ false → Acknowledges m stamp number before (written.Refused BadReplyNumber) before
+  unfolding first
+  acknowledges-number s h = own-refused BadReplyNumber (rw (s, h))
+
+  pub acknowledges-control : isStamp stamp ≡ true → isReplyNumber number ≡ true → noControl m ≡ true
+      → Acknowledges m stamp number before (written.Refused NoControlNumber) before
+  unfolding first
+  acknowledges-control s n h = own-refused NoControlNumber (rw (s, n, h))
+
+  -- the reply as it is written aside, where every reply has room, and then to the front of the buffer
+  module _ (fit : Fit m stamp number) where
+    pub acknowledges-room : length t ≤ longestReply
+    acknowledges-room = reply-bound m stamp number (fit .stamped) (fit .numbered) (fit .controlled)
+
+    passed : own ≡ pick (ltb (length before) (length t)) (refused NoRoom) (given t)
     unfolding first
-    acknowledges-stamp h = own-refused BadStamp (rw (← told, not-true s h))
+    passed = rw (fit .stamped, fit .numbered, fit .controlled)
 
-    module _ (stamped : not s ≡ false) {n : Bool} (told-n : n ≡ isReplyNumber number) where
-      pub acknowledges-number : not n ≡ true → Acknowledges m stamp number before (written.Refused BadReplyNumber) before
-      unfolding first
-      acknowledges-number h = own-refused BadReplyNumber (rw (← told, not-false s stamped, ← told-n, not-true n h))
+    module _ {out out' : Text} {r : ℕ} (aside : Puts out 0 t out' r) where
+      pub acknowledges-full : length before < r → Acknowledges m stamp number before (written.Refused NoRoom) before
+      acknowledges-full h =
+          own-refused NoRoom (passed ∙ rw (lt-ltb (length before) (length t) (omega (arith, puts-front-ends aside))))
 
-      module _ (numbered : not n ≡ false) {k : Bool} (told-k : k ≡ noControl m) where
-        pub acknowledges-control : k ≡ true → Acknowledges m stamp number before (written.Refused NoControlNumber) before
-        unfolding first
-        acknowledges-control h = own-refused NoControlNumber (rw (← told, not-false s stamped, ← told-n, not-false n numbered, ← told-k, h))
-
-        module _ (controlled : k ≡ false) where
-          -- room for every reply
-          pub acknowledges-room : length t ≤ 1200
-          acknowledges-room =
-              reply-bound m stamp number (sym told ∙ not-false s stamped) (sym told-n ∙ not-false n numbered) (sym told-k ∙ controlled)
-
-          passed : own ≡ pick (ltb (length before) (length t)) (refused NoRoom) (given t)
-          unfolding first
-          passed = rw (← told, not-false s stamped, ← told-n, not-false n numbered, ← told-k, controlled)
-
-          -- the reply as it is written aside, and then to the front of the buffer
-          module _ {out out' : Text} {r : ℕ} (aside : Puts out 0 t out' r) where
-            pub acknowledges-full : length before < r → Acknowledges m stamp number before (written.Refused NoRoom) before
-            acknowledges-full h =
-                own-refused NoRoom (passed ∙ rw (lt-ltb (length before) (length t) (omega (arith, puts-front-ends aside))))
-
-            pub acknowledges-given : {e : ℕ} {after : Text} → Puts before 0 (within 0 r out') after e
-                → Acknowledges m stamp number before (written.Bytes e) after
-            acknowledges-given {e} {after} copied =
-                let z : r - 0 ≡ r = omega arith in
-                let p : Puts before 0 t after e = rw (z, puts-head aside) at copied in
-                let g : own ≡ given t = passed ∙ rw (le-ltb (length before) (length t) (puts-front-room p)) in
-                record { answer = rw g (ap given (puts-front-ends p)); buffer = rw g (puts-front p) }
+      pub acknowledges-given : {e : ℕ} {after : Text} → Puts before 0 (within 0 r out') after e
+          → Acknowledges m stamp number before (written.Bytes e) after
+      acknowledges-given {e} {after} copied =
+          let z : r - 0 ≡ r = omega arith in
+          let p : Puts before 0 t after e = rw (z, puts-head aside) at copied in
+          let g : own ≡ given t = passed ∙ rw (le-ltb (length before) (length t) (puts-front-room p)) in
+          record { answer = rw g (ap given (puts-front-ends p)); buffer = rw g (puts-front p) }
 
 -- THE REPLY, by the verdict: a verdict that is no refusal is told where the frame is good
 given-one : (v : code-verdict.Verdict) → OneOf (1 ∷ 2 ∷ []) (tagOf machine.the-type v) → (w : Verdict) × (verdictOf v ≡ given w)

@@ -34,6 +34,10 @@ unfoldable pub replyText : Table → Text → Text → Text → Text
 replyText T m stamp number =
     closed cr (replyHeader m stamp number ∷ replyMSA m (verdict T m) ∷ replyERR (verdict T m))
 
+-- no reply exceeds it
+abbrev pub longestReply : ℕ
+longestReply = 1200
+
 -- its own tests, and those of the frame before them
 abbrev pub ownTests : Table → Text → Text → Text → ℕ → List Test
 ownTests T m stamp number room =

@@ -1,4 +1,6 @@
 // The acknowledgement: the reply to a message.
+pub mod limits;
+
 ghost use mathlib.Core.Path.{_≡_};
 ghost use Prim.Native.Nat.{_≤_};
 ghost use lib.ListN.{length};
@@ -7,17 +9,18 @@ ghost use Rattle.text.specs.Answer.{given};
 ghost use Rattle.profile.specs.Profile.{profile01};
 ghost use Rattle.reader.specs.Fault;
 ghost use Rattle.reader.specs.Told.{verdictOf};
-ghost use Rattle.heading.specs.Inner.{IsHeader};
+ghost use Rattle.heading.specs.Inner.{HeaderFrom, Opened};
 ghost use Rattle.reply.specs.Reply.{noControl, replyText};
 ghost use Rattle.reply.specs.Inner.{Acknowledges};
 ghost use Rattle.reply.specs.Promise.{Replies};
+use heading::copied;
 use heading::is_unfit;
 use heading::put_header;
-use reader::Standing;
 use reader::Verdict;
+use reader::field_leaf;
+use reader::fields_in;
 use reader::judge;
 use reader::occurrence;
-use reader::text_in;
 use report::put_code;
 use report::put_error;
 use text::Refusal;
@@ -27,32 +30,35 @@ use text::put;
 use types::is_reply_number;
 use types::is_stamp;
 
-// Whether the control number is Empty, over its limit or with a bad escape.
-fn has_no_control(m: &[u8], header: Standing) -> bool
-    requires { ⌜ IsHeader (now m) header ⌝ }
+// Whether the control number, of the message's header from MSH-10 on, is Empty, over its limit or with a bad escape.
+fn has_no_control(m: &[u8], tenth: &[u8]) -> bool
+    requires { ⌜ HeaderFrom (now m) 10 (now tenth) ⌝ }
     ensures { λ r. ⌜ r ≡ noControl (now (m .entry)) ⌝ }
 {
-    let control = text_in(m, header, 10, 1);
-    (control.len() == 0) | is_unfit(marks_of(m), 20, control)
+    let q = marks_of(m);
+    let control = field_leaf(tenth, q);
+    (control.len() == 0) | is_unfit(q, copied::CONTROL_LIMIT, control)
 }
 
-// Puts the whole reply to the front, and answers where it ends.
+// Puts the whole reply to the front, and answers where it ends. Of the message's header it has what stands from MSH-3 on and from MSH-10 on.
 fn put_reply(
     out: &mut [u8],
     m: &[u8],
-    header: Standing,
+    third: &[u8],
+    tenth: &[u8],
     v: Verdict,
     stamp: &[u8],
     number: &[u8],
 ) -> usize
-    requires { ⌜ IsHeader (now m) header ⌝ }
+    requires { ⌜ Opened (now m) (now third) (now tenth) ⌝ }
     requires { ⌜ verdictOf v ≡ given (Fault.verdict profile01 (now m)) ⌝ }
     requires { ⌜ length (replyText profile01 (now m) (now stamp) (now number)) ≤ length (now out) ⌝ }
     ensures { λ r. ⌜ Puts (now (out .entry)) 0 (replyText profile01 (now (m .entry)) (now (stamp .entry)) (now (number .entry))) (now (out .exit)) r ⌝ }
 {
-    let a = put_header(out, m, header, stamp, number);
+    let control = field_leaf(tenth, marks_of(m));
+    let a = put_header(out, m, third, tenth, stamp, number);
     let b = put_code(out, a, v);
-    let c = put(out, b, text_in(m, header, 10, 1));
+    let c = put(out, b, control);
     let d = put(out, c, b"\r");
     put_error(out, d, v)
 }
@@ -70,11 +76,13 @@ fn acknowledge(m: &[u8], v: Verdict, stamp: &[u8], number: &[u8], buffer: &mut [
         return Written::Refused(Refusal::BadReplyNumber);
     }
     let header = occurrence(m, b'M', b'S', b'H', 1);
-    if has_no_control(m, header) {
+    let third = fields_in(m, header, copied::PARTIES);
+    let tenth = fields_in(m, header, copied::CONTROL_NUMBER);
+    if has_no_control(m, tenth) {
         return Written::Refused(Refusal::NoControlNumber);
     }
-    let mut out = [0u8; 1200];
-    let n = put_reply(&mut out, m, header, v, stamp, number);
+    let mut out = [0u8; limits::LONGEST_REPLY];
+    let n = put_reply(&mut out, m, third, tenth, v, stamp, number);
     if buffer.len() < n {
         return Written::Refused(Refusal::NoRoom);
     }

@@ -20,16 +20,16 @@ use Rattle.reader.specs.declared.Place as code-place
 use Rattle.reader.specs.Place.{Place}
 use Rattle.reader.specs.Told.{placeOf}
 use Rattle.reader.specs.Fault.{condition}
-use Rattle.report.specs.Error.{orNone, placeText, conditionText}
+use Rattle.report.specs.Error.{firstRejection, orNone, placeText, conditionText}
 use Rattle.report.specs.Inner.{codeOf, conditionWords, errorText}
 
 -- THE CODE of a fault, by its condition
 module _ (v : Verdict) (f : Fault) (k : ℕ) (e : v ≡ verdict.Fault f) (q : k ≡ condition (f .reason)) where
-  pub code-error : k < 200 → codeOf v ≡ bytes "MSA|AE|"
-  code-error h = ap codeOf e ∙ rw (← q, lt-ltb k 200 h)
+  pub code-error : k < firstRejection → codeOf v ≡ bytes "MSA|AE|"
+  code-error h = ap codeOf e ∙ rw (← q, lt-ltb k firstRejection h)
 
-  pub code-reject : 200 ≤ k → codeOf v ≡ bytes "MSA|AR|"
-  code-reject h = ap codeOf e ∙ rw (← q, le-ltb k 200 h)
+  pub code-reject : firstRejection ≤ k → codeOf v ≡ bytes "MSA|AR|"
+  code-reject h = ap codeOf e ∙ rw (← q, le-ltb k firstRejection h)
 
 -- a number in digits is not empty
 filled-step : (b : Bool) (s t : Text) → empty s ≡ false → empty t ≡ false → empty (pick b s t) ≡ false

@@ -9,10 +9,14 @@ use Rattle.parts.specs.Split.{join, trimmed}
 use Rattle.reader.specs.Place.{Place}
 use Rattle.reader.specs.Fault.{Verdict, accepted, fault, condition}
 
--- AE below condition 200, AR from 200, else AA
+-- from this condition on a message is rejected
+abbrev pub firstRejection : ℕ
+firstRejection = 200
+
+-- AE below that condition, AR from it on, else AA
 abbrev pub code : Verdict → Text
 code accepted = bytes "AA"
-code (fault p n) = pick (ltb (condition n) 200) (bytes "AE") (bytes "AR")
+code (fault p n) = pick (ltb (condition n) firstRejection) (bytes "AE") (bytes "AR")
 
 -- a place with its trailing zeros left off
 abbrev pub orNone : ℕ → Text

@@ -14,6 +14,9 @@ use reader::condition;
 use text::put;
 use text::put_decimal;
 
+// From this condition on a message is rejected.
+const FIRST_REJECTION: u16 = 200;
+
 // MSA up to the control number.
 pub fn put_code(out: &mut [u8], at: usize, v: Verdict) -> usize
     requires { ⌜ at + length (codeOf v) ≤ length (now out) ⌝ }
@@ -23,7 +26,7 @@ pub fn put_code(out: &mut [u8], at: usize, v: Verdict) -> usize
         Verdict::Refused(_) => at,
         Verdict::Accepted => put(out, at, b"MSA|AA|"),
         Verdict::Fault(f) => {
-            if condition(f.reason) < 200 {
+            if condition(f.reason) < FIRST_REJECTION {
                 return put(out, at, b"MSA|AE|");
             }
             put(out, at, b"MSA|AR|")

@@ -8,13 +8,13 @@ use Rattle.text.specs.Bytes.{Text}
 use Rattle.text.specs.Answer.{Answer, refused, given}
 use Rattle.text.specs.declared.refusal.Refusal.{Refusal}
 use Rattle.text.proofs.Answer.{told-refused}
-use Rattle.line.specs.Line.{ended, refusedLine}
+use Rattle.line.specs.Line.{asLine, refusedLine}
 use Rattle.hex.specs.Hex.{hexLines, slipLines}
 use Rattle.slip.specs.Slot.{slotSize}
 use Rattle.slip.specs.Book.{bookAfter}
 use Rattle.slip.specs.Told.{done}
 
-pub lines-refused : (a : Answer Text) (r : Refusal) → refused r ≡ done a → ended (refusedLine r) ≡ slipLines a
+pub lines-refused : (a : Answer Text) (r : Refusal) → refused r ≡ done a → asLine (refusedLine r) ≡ slipLines a
 lines-refused a r e = ap slipLines (sym (told-refused (λ (t : Text). tt {0}) a r e))
 
 -- the one slot of the book is the slip

@@ -15,7 +15,7 @@ returns c =
     let a = b .before .before .before .before in
     let f = a .before .before .before .before .args .f in
     rw (k .before .condition .ensures, fault-written (placeOf (f .place)) (f .reason)) at
-    (puts-both (puts-both (puts-both (puts-both (a .put .ensures) (b .put-place .ensures .0)) (k .put-number .ensures .0)) (d .put-number2 .ensures .0))
+    (puts-both (puts-both (puts-both (puts-both (a .put .ensures) (b .put-place .ensures .puts)) (k .put-number .ensures .puts)) (d .put-number2 .ensures .puts))
     (e .put2 .ensures))
 
 pub fault-line-spec : {M : Type 1} → statement M

@@ -14,7 +14,7 @@ returns c =
     let b = c .before .before in
     let a = b .before .before .before .before in
     let p = puts-both (a .put .ensures) (b .put-decimal .ensures) in
-    (p, (omega (arith, decimal-ends _ (b .put-decimal .ensures), a .put .ensures .ends), puts-length p))
+    record { puts = p; short = omega (arith, decimal-ends _ (b .put-decimal .ensures), a .put .ensures .ends); stays = puts-length p }
 
 pub put-number-spec : {M : Type 1} → statement M
 put-number-spec =

@@ -12,12 +12,14 @@ returns c =
     let d = e .before .before .before .before in
     let s = d .before .before .before .before in
     let b = s .before .before .before .before in
-    let a = b .before .before .before .before in (
-      rw (place-written _ _ _ _ _ _) at
-          (puts-both (puts-both (puts-both (puts-both (puts-both (a .put .ensures) (b .put-number .ensures .0)) (s .put-number2 .ensures .0))
-          (d .put-number3 .ensures .0)) (e .put-number4 .ensures .0)) (f .put-number5 .ensures .0)),
-      search needs,
-    )
+    let a = b .before .before .before .before in
+    record {
+      puts = rw (place-written _ _ _ _ _ _) at
+          (puts-both (puts-both (puts-both (puts-both (puts-both (a .put .ensures) (b .put-number .ensures .puts)) (s .put-number2 .ensures .puts))
+          (d .put-number3 .ensures .puts)) (e .put-number4 .ensures .puts)) (f .put-number5 .ensures .puts));
+      short = search needs;
+      stays = search needs;
+    }
 
 pub put-place-spec : {M : Type 1} → statement M
 put-place-spec =
