@@ -3,8 +3,8 @@ use mathlib.Core.Path.{_≡_, refl, sym, ap, subst, _∙_}
 use Prim.Native.Nat.{ℕ, zero, suc, _+_, _-_, _≤_, _<_}
 use native.Mathlib.Omega.{arith}
 use mathlib.Core.Bool.{true}
-use mathlib.Core.List.{List, [], _∷_}
-use lib.ListN.{length, getD, drop, length-take, length-drop}
+use mathlib.Core.List.{List, []}
+use lib.ListN.{length, drop, length-take, length-drop, List·getD-eq-default}
 use borrow.Author.Tests.{ltb-true}
 use Rattle.text.specs.Bytes.{Text, within, same}
 use Rattle.text.specs.Answer.{given}
@@ -14,7 +14,7 @@ use Rattle.parts.specs.declared.Numbers.{Numbers}
 use Rattle.parts.specs.Split.{piece}
 use Rattle.parts.specs.Descent.{inField}
 use Rattle.parts.proofs.Split.{Stands, stands-in}
-use Rattle.parts.proofs.Descent.{within-length}
+use Rattle.parts.proofs.Descent.{within-stands}
 use Rattle.reader.specs.declared.standing.Standing.{Standing}
 use Rattle.reader.specs.declared.standing.Standing.the-variants.{Missing, Segment}
 use Rattle.frame.specs.Segments.{segments, ofName, fewer, occurrence, field}
@@ -22,7 +22,7 @@ use Rattle.reader.specs.Copied.{standing}
 use Rattle.reader.proofs.Seek.{standing-missing, standing-inside, standing-text}
 use Rattle.reader.specs.declared.Found as code-found
 use Rattle.checks.specs.Place.{place, leafAt, leafStart, textAt}
-use Rattle.checks.specs.LookUp.{Found, shown}
+use Rattle.checks.specs.LookUp.{Found}
 use Rattle.seek.specs.Inner.{leafFound, leafTold}
 use Rattle.seek.specs.declared.Seen.{Seen}
 use Rattle.seek.specs.declared.Seen.the-variants as seen
@@ -32,11 +32,7 @@ use Rattle.reader.specs.Told.{foundOf}
 use Rattle.reader.specs.Copied.{Stood, segmentText}
 use Rattle.parts.proofs.Descent.{piece-nil, part-nil}
 use Rattle.checks.proofs.Stands.{leaf-stands}
-use Rattle.reader.proofs.LookUp.{shown-step}
-
--- a segment stands in the message where it was found
-within-stands : (m : Text) (a e : ℕ) → a ≤ e → e ≤ length m → Stands m a (within a e m)
-within-stands m a e l h = rw (within-length m a e l h)
+use Rattle.reader.proofs.LookUp.{shown-step, shown-empty}
 
 module _ (m : Text) (a e : ℕ) (l : a ≤ e) (h : e ≤ length m) (q : Marks) (n : Numbers) where
   abbrev s : Text
@@ -63,21 +59,17 @@ module _ (m : Text) (a e : ℕ) (l : a ≤ e) (h : e ≤ length m) (q : Marks) (
         omega (arith, w, ap length stands, length-take (length t) (drop k m), length-drop k m),
       )
 
-  empty-step : (u : Text) → Found.Empty ≡ shown k u → u ≡ []
-  empty-step [] g = refl
-  empty-step (b ∷ u) g = absurd (let z : _≡_ {A = ℕ} 0 1 = cc in omega arith)
-
   -- and its bytes are the leaf
   leaf-bytes : (f : code-found.Found) → foundOf f ≡ given (leafFound q n a s) → within (startOf f) (endOf f) m ≡ t
   leaf-bytes (code-found.the-variants.Refused r) g = absurd (let z : _≡_ {A = ℕ} 0 1 = cc in omega arith)
-  leaf-bytes code-found.the-variants.Empty g = sym (empty-step t cc)
+  leaf-bytes code-found.the-variants.Empty g = sym (shown-empty k t cc)
   leaf-bytes (code-found.the-variants.Text b d) g =
       let w = shown-step k b d t cc in
       let z : d - b ≡ length t = omega (arith, w) in
       rw (z, w .0) stands
 
 -- of no segment there is no leaf
-leaf-none : (q : Marks) (f r c b : ℕ) → leafAt q [] f r c b ≡ []
+pub leaf-none : (q : Marks) (f r c b : ℕ) → leafAt q [] f r c b ≡ []
 unfolding leafAt field same
 leaf-none q f r c b = rw (piece-nil (q .field) f) (part-nil (inField q r c b))
 
@@ -113,14 +105,9 @@ pub taken-none : (m : Text) (s : Standing) (f c : ℕ) (r : Text) → s ≡ Miss
 taken-none m s f c r g e = e ∙ rw g (sym (leaf-none (marksOf m) f 1 c 1))
 
 -- a segment that is missing
-none-left : (l : List Text) (i : ℕ) → length l ≤ i → getD l i [] ≡ []
-none-left [] i h = refl
-none-left (x ∷ l) zero h = absurd (omega arith)
-none-left (x ∷ l) (suc i) h = none-left l i (omega arith)
-
 piece-none : (l : List Text) (o : ℕ) → length l < o → piece o l ≡ []
 piece-none l zero h = refl
-piece-none l (suc i) h = none-left l i (omega arith)
+piece-none l (suc i) h = List·getD-eq-default l [] {n = i} (omega arith)
 
 missing-none : (m n : Text) (o : ℕ) → fewer m n o ≡ true → [] ≡ occurrence m n o
 missing-none m n o e = sym (piece-none (ofName n (segments m)) o (ltb-true (length (ofName n (segments m))) o e))
