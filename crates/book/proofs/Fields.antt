@@ -16,7 +16,7 @@ use Rattle.text.specs.declared.refusal.Refusal.the-variants.{NoTag}
 use Rattle.text.proofs.Tests.{empty-some}
 use Rattle.text.proofs.Lists.{and-both}
 use Rattle.slip.specs.Slot.{Tagged, tagged, twoBytes, tagBytes}
-use Rattle.tags.specs.Fields.{Expected, size, value, hasTag, isThere, taken, isZero, isSlipFrom}
+use Rattle.tags.specs.Fields.{countTag, greatestCount, headSize, Expected, size, value, hasTag, isThere, taken, isZero, isSlipFrom}
 use Rattle.book.specs.Read.{Part, span, valueFrom}
 use Rattle.book.specs.RoundTrip.{valueOfTag}
 
@@ -61,14 +61,14 @@ module _ (x : Expected) (v rest : Text) (h : Held (x .most) v) (m : x .most < 65
   value-before : value (before (x .tag) v rest) ≡ v
   value-before = ap (λ (n : ℕ). take n (v ++ rest)) size-before ∙ take-append-seam v rest
 
-  taken-before : taken x (before (x .tag) v rest) ≡ 3 + length v
-  taken-before = rw (eq-eqb (x .tag) (x .tag) refl) (ap (λ (n : ℕ). 3 + n) size-before)
+  taken-before : taken x (before (x .tag) v rest) ≡ headSize + length v
+  taken-before = rw (eq-eqb (x .tag) (x .tag) refl) (ap (λ (n : ℕ). headSize + n) size-before)
 
   -- behind the field stands what follows it
   rest-before : drop (taken x (before (x .tag) v rest)) (before (x .tag) v rest) ≡ rest
   rest-before =
       ap (λ (n : ℕ). drop n (before (x .tag) v rest)) taken-before
-      ∙ (sym (drop-drop (length v) 3 (before (x .tag) v rest)) ∙ drop-append-seam v rest)
+      ∙ (sym (drop-drop (length v) headSize (before (x .tag) v rest)) ∙ drop-append-seam v rest)
 
   there-before : isThere x (before (x .tag) v rest) ≡ true
   there-before =
@@ -93,22 +93,22 @@ module _ (x : Expected) (v rest : Text) (h : Held (x .most) v) (m : x .most < 65
 
     -- the book from the value on, and from behind the field on
     module _ (tag at : ℕ) (book r′ : Text) (e : drop at book ≡ before (x .tag) v rest ++ r′) where
-      from-value : drop (at + 3) book ≡ v ++ (rest ++ r′)
-      from-value = sym (drop-drop 3 at book) ∙ (ap (drop 3) e ∙ append-assoc v rest r′)
+      from-value : drop (at + headSize) book ≡ v ++ (rest ++ r′)
+      from-value = sym (drop-drop headSize at book) ∙ (ap (drop headSize) e ∙ append-assoc v rest r′)
 
       from-rest : drop (at + taken x (before (x .tag) v rest)) book ≡ rest ++ r′
       from-rest =
-          ap (λ (n : ℕ). drop n book) (let q : at + taken x (before (x .tag) v rest) ≡ at + 3 + length v = omega (arith, taken-before) in q)
-          ∙ (sym (drop-drop (length v) (at + 3) book) ∙ (ap (drop (length v)) from-value ∙ drop-append-seam v (rest ++ r′)))
+          ap (λ (n : ℕ). drop n book) (let q : at + taken x (before (x .tag) v rest) ≡ at + headSize + length v = omega (arith, taken-before) in q)
+          ∙ (sym (drop-drop (length v) (at + headSize) book) ∙ (ap (drop (length v)) from-value ∙ drop-append-seam v (rest ++ r′)))
 
-      bytes-value : within (at + 3) (at + 3 + size (before (x .tag) v rest)) book ≡ v
+      bytes-value : within (at + headSize) (at + headSize + size (before (x .tag) v rest)) book ≡ v
       bytes-value =
-          let n : at + 3 + size (before (x .tag) v rest) - (at + 3) ≡ length v = omega (arith, size-before) in
-          ap (λ (l : ℕ). take l (drop (at + 3) book)) n ∙ (ap (take (length v)) from-value ∙ take-append-seam v (rest ++ r′))
+          let n : at + headSize + size (before (x .tag) v rest) - (at + headSize) ≡ length v = omega (arith, size-before) in
+          ap (λ (l : ℕ). take l (drop (at + headSize) book)) n ∙ (ap (take (length v)) from-value ∙ take-append-seam v (rest ++ r′))
 
       value-step : (b : Bool) → eqb tag (x .tag) ≡ b
           → told book
-          (pick (b && hasTag tag (before (x .tag) v rest)) (span (at + 3) (size (before (x .tag) v rest)))
+          (pick (b && hasTag tag (before (x .tag) v rest)) (span (at + headSize) (size (before (x .tag) v rest)))
           (valueFrom xs tag (at + taken x (before (x .tag) v rest)) (drop (taken x (before (x .tag) v rest)) (before (x .tag) v rest))))
           ≡ pick (b && not (empty v)) (given v) (valueOfTag tag fs)
       value-step true q =
@@ -130,7 +130,7 @@ module _ (x : Expected) (v rest : Text) (h : Held (x .most) v) (m : x .most < 65
 module _ (x : Expected) (xs : List Expected) (fs : List Tagged) (rest : Text) (o : x .optional ≡ true) (n : hasTag (x .tag) rest ≡ false)
     (r : Reads xs fs rest) where
   absent-step : (tag at : ℕ) (book r′ : Text) → drop at book ≡ rest ++ r′ → (b : Bool) → eqb tag (x .tag) ≡ b
-      → told book (pick (b && hasTag tag rest) (span (at + 3) (size rest)) (valueFrom xs tag (at + 0) rest)) ≡ pick (b && false) (given []) (valueOfTag tag fs)
+      → told book (pick (b && hasTag tag rest) (span (at + headSize) (size rest)) (valueFrom xs tag (at + 0) rest)) ≡ pick (b && false) (given []) (valueOfTag tag fs)
   absent-step tag at book r′ e true q =
       rw (eqb-true tag (x .tag) q, n, add-zero) (r .values (x .tag) at book r′ e)
   absent-step tag at book r′ e false q = rw add-zero (r .values tag at book r′ e)
@@ -149,22 +149,22 @@ unfolding every
 zeros zero = refl
 zeros (suc n) = zeros n
 
-module _ (n z : ℕ) (l : n ≤ 509) where
+module _ (n z : ℕ) (l : n ≤ greatestCount) where
   abbrev tail : Text
-  tail = tagBytes (tagged 6 (twoBytes n)) ++ replicate z 0
+  tail = tagBytes (tagged countTag (twoBytes n)) ++ replicate z 0
 
   count-step : (tag at : ℕ) (book r′ : Text) → drop at book ≡ tail ++ r′ → (b : Bool)
-      → told book (pick b (span (at + 3) 2) none) ≡ pick (b && true) (given (twoBytes n)) (refused NoTag)
+      → told book (pick b (span (at + headSize) 2) none) ≡ pick (b && true) (given (twoBytes n)) (refused NoTag)
   count-step tag at book r′ e true =
-      let w : at + 3 + 2 - (at + 3) ≡ 2 = omega arith in
+      let w : at + headSize + 2 - (at + headSize) ≡ 2 = omega arith in
       ap given
-      (ap (λ (k : ℕ). take k (drop (at + 3) book)) w ∙ (ap (take 2) (sym (drop-drop 3 at book)) ∙ ap (λ (t : Text). take 2 (drop 3 t)) e))
+      (ap (λ (k : ℕ). take k (drop (at + headSize) book)) w ∙ (ap (take 2) (sym (drop-drop headSize at book)) ∙ ap (λ (t : Text). take 2 (drop headSize t)) e))
   count-step tag at book r′ e false = refl
 
-  pub reads-count : Reads [] (tagged 6 (twoBytes n) ∷ []) tail
+  pub reads-count : Reads [] (tagged countTag (twoBytes n) ∷ []) tail
   unfolding isSlipFrom valueFrom valueOfTag
   reads-count =
       record {
-        whole = and-both (leb (n / 256 % 256 * 256 + n % 256) 509) (every isZero (replicate z 0)) (rw (two-bytes n (omega arith)) (le-leb n 509 l)) (zeros z);
-        values = λ tag at book r′ e. count-step tag at book r′ e (eqb tag 6);
+        whole = and-both (leb (n / 256 % 256 * 256 + n % 256) greatestCount) (every isZero (replicate z 0)) (rw (two-bytes n (omega arith)) (le-leb n greatestCount l)) (zeros z);
+        values = λ tag at book r′ e. count-step tag at book r′ e (eqb tag countTag);
       }

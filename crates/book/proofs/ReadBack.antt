@@ -1,7 +1,7 @@
 -- What `file` leaves, and THE ROUND TRIP of the entries: what `read_slip` hands back of it.
 use mathlib.Core.Path.{_≡_, refl, sym, ap, _∙_}
 use mathlib.Core.Logic.{_⊎_}
-use Prim.Native.Nat.{ℕ, _+_, _*_, _≤_, _<_}
+use Prim.Native.Nat.{ℕ, _+_, _≤_, _<_}
 use native.Mathlib.Omega.{arith}
 use lib.ListN.{length, getD}
 use denote.Ref.{RefT}
@@ -12,11 +12,12 @@ use Rattle.slip.specs.declared.Filed.the-variants.{Slip}
 use Rattle.book.specs.declared.Value.{Value}
 use Rattle.book.specs.declared.Value.the-variants as value
 use Rattle.book.specs.declared.reading.SlipValue.{SlipValue}
+use Rattle.slip.specs.Slot.{slotSize, slotStart}
 use Rattle.slip.specs.Slip.{slipValues, slipText}
 use Rattle.slip.specs.Book.{file}
 use Rattle.slip.specs.Told.{done}
 use Rattle.slip.specs.Promise.{Files}
-use Rattle.slip.proofs.Answers.{slot-room}
+use Rattle.slip.proofs.SlotRoom.{slot-room}
 use Rattle.slip.proofs.Passed.{filed-room, filed-fitting}
 use Rattle.book.specs.Read.{Part, slot, readSlip}
 use Rattle.book.specs.Told.{valueOf, startOf, endOf}
@@ -51,10 +52,10 @@ module _ (m : Text) (g k : ℕ) (before after : Text) (was-filed : Files profile
   e : file profile01 m g k before ≡ given slip
   e = slip-given .1
 
-  width : length (slipText m g) ≡ 1024
+  width : length (slipText m g) ≡ slotSize
   width = text-length m g (filed-fitting m g k before slip e)
 
-  room : 1024 * k + 1024 ≤ length before
+  room : slotStart k + slotSize ≤ length before
   room = slot-room before k (filed-room m g k before slip e)
 
   left : after ≡ filed before (slipText m g) k
@@ -64,7 +65,7 @@ module _ (m : Text) (g k : ℕ) (before after : Text) (was-filed : Files profile
   pub filed-there : slot after k ≡ slipText m g
   filed-there = ap (λ (b : Text). slot b k) left ∙ filed-slot before (slipText m g) k width room
 
-  pub filed-untouched : (i : ℕ) → (i < 1024 * k) ⊎ (1024 * k + 1024 ≤ i) → getD after i 0 ≡ getD before i 0
+  pub filed-untouched : (i : ℕ) → (i < slotStart k) ⊎ (slotStart k + slotSize ≤ i) → getD after i 0 ≡ getD before i 0
   filed-untouched i h = ap (λ (b : Text). getD b i 0) left ∙ filed-elsewhere before (slipText m g) k i width room h
 
   pub filed-size : length after ≡ length before

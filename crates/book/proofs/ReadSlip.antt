@@ -14,14 +14,14 @@ use Rattle.text.specs.Bytes.{Text, pick, within}
 use Rattle.text.specs.Answer.{Answer, refused, given, test, first}
 use Rattle.text.specs.declared.refusal.Refusal.the-variants.{NoSlot, BadSlip, NoTag}
 use Rattle.text.proofs.Tests.{both}
-use Rattle.slip.specs.Slot.{noSlot}
+use Rattle.slip.specs.Slot.{slotSize, slotStart, noSlot}
 use Rattle.book.specs.declared.Value.{Value}
 use Rattle.book.specs.declared.Value.the-variants as code
 use Rattle.tags.specs.declared.Field.the-variants as field
-use Rattle.tags.specs.Fields.{mostOf, fieldOf, size, hasTag, Expected, expect, taken, isSlipFrom}
+use Rattle.tags.specs.Fields.{placerTag, countTag, headSize, countSize, longestField, mostOf, fieldOf, size, hasTag, Expected, expect, taken, isSlipFrom}
 use Rattle.book.specs.Read.{expected, isSlip, Part, valueFrom, isNone, orNothing, readSlip}
 use Rattle.book.specs.Told.{valueOf}
-use Rattle.tags.specs.Inner.{ReadsField}
+use Rattle.tags.specs.Inner.{ReadsTag}
 use Rattle.book.specs.Inner.{readIn}
 
 -- the fields of n tags from k on
@@ -34,21 +34,21 @@ part a e = record { start = a; end = e }
 
 -- a field's value where its tag is asked for, and none of it otherwise
 module _ (k most : ℕ) (o : Bool) (xs : List Expected) (tag base at e : ℕ) (s : Text) (ends : e ≡ at + taken (expect k most o) (drop at s)) where
-  here-step : (h : Bool) (n : ℕ) → e ≡ at + pick h (3 + n) 0 → at < e → (h ≡ true) × (e ≡ at + 3 + n)
+  here-step : (h : Bool) (n : ℕ) → e ≡ at + pick h (headSize + n) 0 → at < e → (h ≡ true) × (e ≡ at + headSize + n)
   here-step true n q l = (refl, omega arith)
   here-step false n q l = absurd (omega arith)
 
-  gone-step : (h : Bool) (n : ℕ) → e ≡ at + pick h (3 + n) 0 → e ≤ at → h ≡ false
+  gone-step : (h : Bool) (n : ℕ) → e ≡ at + pick h (headSize + n) 0 → e ≤ at → h ≡ false
   gone-step true n q l = absurd (omega arith)
   gone-step false n q l = refl
 
-  value-here : eqb tag k && ltb at e ≡ true → valueFrom (expect k most o ∷ xs) tag (base + at) (drop at s) ≡ some (part (base + at + 3) (base + e))
+  value-here : eqb tag k && ltb at e ≡ true → valueFrom (expect k most o ∷ xs) tag (base + at) (drop at s) ≡ some (part (base + at + headSize) (base + e))
   unfolding valueFrom
   value-here w =
       let b = both (eqb tag k) (ltb at e) w in
       let h = here-step (hasTag k (drop at s)) (size (drop at s)) ends (ltb-true at e (b .1)) in
       rw (eqb-true tag k (b .0), eq-eqb k k refl, h .0)
-      (ap (λ (j : ℕ). some (part (base + at + 3) j)) (omega (arith, h .1)))
+      (ap (λ (j : ℕ). some (part (base + at + headSize) j)) (omega (arith, h .1)))
 
   not-here : (b : Bool) → eqb tag k ≡ b → b && ltb at e ≡ false → eqb tag k && hasTag tag (drop at s) ≡ false
   not-here false q w = rw q
@@ -92,23 +92,23 @@ slip-answers : (s : Text) (base tag : ℕ) → isSlip s ≡ true → answered (v
 unfolding first
 slip-answers s base tag e = rw e
 
-count-there : (tag base at : ℕ) (t : Text) → tag ≡ 6 → valueFrom [] tag (base + at) t ≡ some (part (base + at + 3) (base + (at + 5)))
+count-there : (tag base at : ℕ) (t : Text) → tag ≡ countTag → valueFrom [] tag (base + at) t ≡ some (part (base + at + headSize) (base + (at + countSize)))
 unfolding valueFrom
 count-there tag base at t e =
-    let h : base + at + 3 + 2 ≡ base + (at + 5) = omega arith in
-    rw (eq-eqb tag 6 e) (ap (λ (j : ℕ). some (part (base + at + 3) j)) h)
+    let h : base + at + headSize + 2 ≡ base + (at + countSize) = omega arith in
+    rw (eq-eqb tag countTag e) (ap (λ (j : ℕ). some (part (base + at + headSize) j)) h)
 
-no-other : (tag k : ℕ) (t : Text) → (tag ≡ 6 → ⊥) → valueFrom [] tag k t ≡ none
+no-other : (tag k : ℕ) (t : Text) → (tag ≡ countTag → ⊥) → valueFrom [] tag k t ≡ none
 unfolding valueFrom
-no-other tag k t n = rw (ne-eqb tag 6 n)
+no-other tag k t n = rw (ne-eqb tag countTag n)
 
 -- where the reading of a slip stands: the fields before k are read and end at `at`, and the rest decides
 pub record ReadTo (s : Text) (base tag : ℕ) (found : Value) (at k : ℕ) : Type 0 where
   pub low : 1 ≤ k
-  pub high : k ≤ 6
-  pub near : at + 202 ≤ 202 * k
-  pub good : isSlipFrom (fieldsFrom (6 - k) k) (drop at s) ≡ isSlip s
-  pub seen : Seen tag k (valueFrom expected tag base s) (valueFrom (fieldsFrom (6 - k) k) tag (base + at) (drop at s)) found
+  pub high : k ≤ countTag
+  pub near : at + longestField ≤ longestField * k
+  pub good : isSlipFrom (fieldsFrom (countTag - k) k) (drop at s) ≡ isSlip s
+  pub seen : Seen tag k (valueFrom expected tag base s) (valueFrom (fieldsFrom (countTag - k) k) tag (base + at) (drop at s)) found
 
 pub read-none : (s : Text) (base tag : ℕ) → ReadTo s base tag (code.Refused NoTag) 0 1
 unfolding fieldsFrom
@@ -116,21 +116,21 @@ read-none s base tag =
     record { low = omega arith; high = omega arith; near = omega arith; good = refl; seen = not-yet (rw (add-zero base)) }
 
 module _ (s : Text) (base tag : ℕ) (found : Value) (at k : ℕ) (c : ReadTo s base tag found at k) where
-  module _ (more : k < 6) where
-    next : fieldsFrom (6 - k) k ≡ fieldOf k ∷ fieldsFrom (6 - (k + 1)) (k + 1)
+  module _ (more : k < countTag) where
+    next : fieldsFrom (countTag - k) k ≡ fieldOf k ∷ fieldsFrom (countTag - (k + 1)) (k + 1)
     unfolding fieldsFrom
-    next = let e : 6 - k ≡ suc (6 - (k + 1)) = omega arith in rw e
+    next = let e : countTag - k ≡ suc (countTag - (k + 1)) = omega arith in rw e
 
-    pub read-bad : ReadsField s at k field.Bad → refused BadSlip ≡ readIn s base tag
+    pub read-bad : ReadsTag s at k field.Bad → refused BadSlip ≡ readIn s base tag
     unfolding first isSlipFrom
     read-bad b = let h : isSlip s ≡ false = sym (c .good) ∙ rw (next, b) in rw h
 
-    module _ (e : ℕ) (reads : ReadsField s at k (field.Ends e)) where
-      good-on : isSlipFrom (fieldsFrom (6 - (k + 1)) (k + 1)) (drop e s) ≡ isSlip s
+    module _ (e : ℕ) (reads : ReadsTag s at k (field.Ends e)) where
+      good-on : isSlipFrom (fieldsFrom (countTag - (k + 1)) (k + 1)) (drop e s) ≡ isSlip s
       unfolding isSlipFrom
       good-on = rw (next, reads .0, drop-drop (taken (fieldOf k) (drop at s)) at s, ← reads .1 .0) at (c .good)
 
-      pub read-here : eqb tag k && ltb at e ≡ true → ReadTo s base tag (code.Part (base + at + 3) (base + e)) e (k + 1)
+      pub read-here : eqb tag k && ltb at e ≡ true → ReadTo s base tag (code.Part (base + at + headSize) (base + e)) e (k + 1)
       read-here w =
           record {
             low = omega (arith, c);
@@ -138,8 +138,8 @@ module _ (s : Text) (base tag : ℕ) (found : Value) (at k : ℕ) (c : ReadTo s 
             near = omega (arith, c, reads);
             good = good-on;
             seen =
-                seen-here tag k (base + at + 3) (base + e) _ _ _ found (eqb-true tag k (both (eqb tag k) (ltb at e) w .0))
-                (rw next (value-here k (mostOf k) (eqb k 3) (fieldsFrom (6 - (k + 1)) (k + 1)) tag base at e s (reads .1 .0) w)) (c .seen);
+                seen-here tag k (base + at + headSize) (base + e) _ _ _ found (eqb-true tag k (both (eqb tag k) (ltb at e) w .0))
+                (rw next (value-here k (mostOf k) (eqb k placerTag) (fieldsFrom (countTag - (k + 1)) (k + 1)) tag base at e s (reads .1 .0) w)) (c .seen);
           }
 
       pub read-past : eqb tag k && ltb at e ≡ false → ReadTo s base tag found e (k + 1)
@@ -151,14 +151,14 @@ module _ (s : Text) (base tag : ℕ) (found : Value) (at k : ℕ) (c : ReadTo s 
             good = good-on;
             seen =
                 seen-past tag k _ _ _ found
-                (rw next (value-past k (mostOf k) (eqb k 3) (fieldsFrom (6 - (k + 1)) (k + 1)) tag base at e s (reads .1 .0) w)) (c .seen);
+                (rw next (value-past k (mostOf k) (eqb k placerTag) (fieldsFrom (countTag - (k + 1)) (k + 1)) tag base at e s (reads .1 .0) w)) (c .seen);
           }
 
   -- behind the five: the count and the zeros decide whether it is a slip
-  module _ (last : 6 ≤ k) (b : Bool) (ends : b ≡ isSlipFrom [] (drop at s)) where
-    none-left : fieldsFrom (6 - k) k ≡ []
+  module _ (last : countTag ≤ k) (b : Bool) (ends : b ≡ isSlipFrom [] (drop at s)) where
+    none-left : fieldsFrom (countTag - k) k ≡ []
     unfolding fieldsFrom
-    none-left = let e : 6 - k ≡ 0 = omega arith in rw e
+    none-left = let e : countTag - k ≡ 0 = omega arith in rw e
 
     is-slip : isSlip s ≡ b
     is-slip = sym (rw (none-left, ← ends) at (c .good))
@@ -171,14 +171,14 @@ module _ (s : Text) (base tag : ℕ) (found : Value) (at k : ℕ) (c : ReadTo s 
       told : answered (valueFrom expected tag base s) ≡ readIn s base tag
       told = slip-answers s base tag (is-slip ∙ not-false b slip)
 
-      counted : tag ≡ 6 → valueFrom expected tag base s ≡ some (part (base + at + 3) (base + (at + 5)))
+      counted : tag ≡ countTag → valueFrom expected tag base s ≡ some (part (base + at + headSize) (base + (at + countSize)))
       counted e = seen-count tag k _ _ found (omega (arith, c)) (c .seen) ∙ rw none-left (count-there tag base at (drop at s) e)
 
-      pub read-count : tag ≡ 6 → given (part (base + at + 3) (base + (at + 5))) ≡ readIn s base tag
+      pub read-count : tag ≡ countTag → given (part (base + at + headSize) (base + (at + countSize))) ≡ readIn s base tag
       unfolding first
       read-count e = ap answered (sym (counted e)) ∙ told
 
-      pub read-found : (tag ≡ 6 → ⊥) → valueOf found ≡ readIn s base tag
+      pub read-found : (tag ≡ countTag → ⊥) → valueOf found ≡ readIn s base tag
       read-found n = seen-last tag k _ _ found (rw none-left (no-other tag (base + at) (drop at s) n)) (c .seen) ∙ told
 
 -- the slot in the book
@@ -187,10 +187,9 @@ module _ (book : Text) (k tag : ℕ) where
   unfolding readSlip first
   read-no-slot n = rw n
 
-  pub read-slot : noSlot book k ≡ false → (a : Answer Part) → a ≡ readIn (within (k * 1024) (k * 1024 + 1024) book) (k * 1024) tag
-      → a ≡ readSlip book k tag
+  pub read-slot : noSlot book k ≡ false → (base : ℕ) → base ≡ slotStart k → (a : Answer Part)
+      → a ≡ readIn (within base (base + slotSize) book) base tag → a ≡ readSlip book k tag
   unfolding readSlip first
-  read-slot has a e =
-      let size : k * 1024 + 1024 - k * 1024 ≡ 1024 = omega arith in
-      let base : k * 1024 ≡ 1024 * k = omega arith in
-      rw has (rw (size, base) at e)
+  read-slot has base b a e =
+      let size : base + slotSize - base ≡ slotSize = omega arith in
+      rw has (rw (size, b) at e)

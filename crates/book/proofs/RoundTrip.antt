@@ -1,6 +1,6 @@
 -- THE ROUND TRIP: what was filed is read again, and the other slots read as before.
 use mathlib.Core.Path.{_≡_, ap, _∙_}
-use Prim.Native.Nat.{ℕ, _+_, _*_, _/_, _≤_}
+use Prim.Native.Nat.{ℕ, _+_, _/_, _≤_}
 use native.Mathlib.Omega.{arith}
 use mathlib.Core.Bool.{Bool, true, false, not}
 use mathlib.Core.List.{List, [], _∷_}
@@ -18,11 +18,12 @@ use Rattle.escape.proofs.Escapes.{resolved-length}
 use Rattle.profile.specs.Profile.{profile01}
 use Rattle.reader.specs.Place.{place, textAt}
 use Rattle.reader.specs.Observations.{observationsOf}
-use Rattle.slip.specs.Slot.{Tagged, twoBytes, noSlot}
+use Rattle.slip.specs.Slot.{slotSize, slotStart, Tagged, twoBytes, noSlot}
+use Rattle.tags.specs.Fields.{longestControl, longestText}
 use Rattle.slip.specs.Slip.{resolvedAt, slipValues, slipText}
 use Rattle.slip.specs.Book.{file, bookAfter}
 use Rattle.slip.proofs.Fitting.{Taken, Filled, Fitting}
-use Rattle.slip.proofs.Answers.{slot-room}
+use Rattle.slip.proofs.SlotRoom.{slot-room}
 use Rattle.slip.proofs.Passed.{filed-room, filed-text, filed-fitting}
 use Rattle.book.specs.Read.{expected, isSlip, Part, valueFrom, isNone, orNothing, slot, readSlip}
 use Rattle.book.specs.RoundTrip.{readBytes, valueOfTag, afterwards, RoundTrip}
@@ -44,22 +45,22 @@ module _ (q : Marks) (p : PlainMarks q) (most : ℕ) (t : Text) where
   filled-held h = record { brief = taken-brief (h .taken); some = resolved-some q t (h .taken .good) (h .some) }
 
 module _ (m : Text) (g : ℕ) (f : Fitting m g) where
-  control-held : Held 20 (resolvedAt m (bytes "MSH") 1 10)
-  control-held = filled-held (marksOf m) (marks-plain m) 20 (textAt m (place (bytes "MSH") 1 10 1 1 1)) (f .control)
+  control-held : Held longestControl (resolvedAt m (bytes "MSH") 1 10)
+  control-held = filled-held (marksOf m) (marks-plain m) longestControl (textAt m (place (bytes "MSH") 1 10 1 1 1)) (f .control)
 
-  patient-held : Held 199 (resolvedAt m (bytes "PID") 1 3)
-  patient-held = filled-held (marksOf m) (marks-plain m) 199 (textAt m (place (bytes "PID") 1 3 1 1 1)) (f .patient)
+  patient-held : Held longestText (resolvedAt m (bytes "PID") 1 3)
+  patient-held = filled-held (marksOf m) (marks-plain m) longestText (textAt m (place (bytes "PID") 1 3 1 1 1)) (f .patient)
 
-  placer-brief : Brief 199 (resolvedAt m (bytes "OBR") g 2)
-  placer-brief = taken-brief (marksOf m) (marks-plain m) 199 (textAt m (place (bytes "OBR") g 2 1 1 1)) (f .placer)
+  placer-brief : Brief longestText (resolvedAt m (bytes "OBR") g 2)
+  placer-brief = taken-brief (marksOf m) (marks-plain m) longestText (textAt m (place (bytes "OBR") g 2 1 1 1)) (f .placer)
 
-  filler-held : Held 199 (resolvedAt m (bytes "OBR") g 3)
-  filler-held = filled-held (marksOf m) (marks-plain m) 199 (textAt m (place (bytes "OBR") g 3 1 1 1)) (f .filler)
+  filler-held : Held longestText (resolvedAt m (bytes "OBR") g 3)
+  filler-held = filled-held (marksOf m) (marks-plain m) longestText (textAt m (place (bytes "OBR") g 3 1 1 1)) (f .filler)
 
-  service-held : Held 199 (resolvedAt m (bytes "OBR") g 4)
-  service-held = filled-held (marksOf m) (marks-plain m) 199 (textAt m (place (bytes "OBR") g 4 1 1 1)) (f .service)
+  service-held : Held longestText (resolvedAt m (bytes "OBR") g 4)
+  service-held = filled-held (marksOf m) (marks-plain m) longestText (textAt m (place (bytes "OBR") g 4 1 1 1)) (f .service)
 
-  pub text-length : length (slipText m g) ≡ 1024
+  pub text-length : length (slipText m g) ≡ slotSize
   unfolding slipText
   text-length =
       slip-length (resolvedAt m (bytes "MSH") 1 10) (resolvedAt m (bytes "PID") 1 3) (resolvedAt m (bytes "OBR") g 2) (resolvedAt m (bytes "OBR") g 3)
@@ -80,18 +81,18 @@ told-answer book a b none e h = rw (e, h)
 told-answer book a b (some p) e h = rw (e, h)
 
 -- the slot that was filed reads as the values of its slip
-pub filed-own : (book slip : Text) (fs : List Tagged) (k tag : ℕ) → length slip ≡ 1024 → noSlot book k ≡ false → Reads expected fs slip
+pub filed-own : (book slip : Text) (fs : List Tagged) (k tag : ℕ) → length slip ≡ slotSize → noSlot book k ≡ false → Reads expected fs slip
     → readBytes (filed book slip k) k tag ≡ valueOfTag tag fs
 unfolding readSlip
 filed-own book slip fs k tag w n r =
     let room = slot-room book k n in
     let same = filed-slot book slip k w room in
     told-answer (filed book slip k) (noSlot (filed book slip k) k) (isSlip (slot (filed book slip k) k))
-    (valueFrom expected tag (1024 * k) (slot (filed book slip k) k))
-    (ap (λ (l : ℕ). leb (l / 1024) k) (filed-length book slip k w room) ∙ n)
+    (valueFrom expected tag (slotStart k) (slot (filed book slip k) k))
+    (ap (λ (l : ℕ). leb (l / slotSize) k) (filed-length book slip k w room) ∙ n)
     (ap isSlip same ∙ r .whole)
-    ∙ (ap (λ (s : Text). told (filed book slip k) (valueFrom expected tag (1024 * k) s)) same
-    ∙ r .values tag (1024 * k) (filed book slip k) (drop (1024 * k + 1024) book) (filed-from book slip k w room))
+    ∙ (ap (λ (s : Text). told (filed book slip k) (valueFrom expected tag (slotStart k) s)) same
+    ∙ r .values tag (slotStart k) (filed book slip k) (drop (slotStart k + slotSize) book) (filed-from book slip k w room))
 
 -- what a tag of the filed slot gives
 abbrev pub readBack : Text → ℕ → ℕ → Text → ℕ → Answer Text

@@ -4,8 +4,8 @@ use native.Mathlib.Omega.{arith}
 use mathlib.Core.Path.{_≡_, sym, _∙_}
 use denote.Ref.{RefT}
 use Rattle.text.specs.Bytes.{Text}
-use Rattle.reader.specs.Part.{SamePart}
-use Rattle.reader.proofs.Unique.{part-same}
+use Rattle.text.specs.Part.{SamePart}
+use Rattle.text.proofs.SamePart.{part-same}
 use Rattle.book.specs.declared.Value.{Value}
 use Rattle.book.specs.declared.Value.the-variants as value
 use Rattle.book.specs.declared.reading.SlipValue.{SlipValue}

@@ -3,7 +3,7 @@ use Prim.Native.Nat.{ℕ}
 use mathlib.Core.Path.{_≡_}
 use denote.Ref.{RefT}
 use Rattle.text.specs.Bytes.{Text}
-use Rattle.reader.specs.Part.{VeryPart}
+use Rattle.text.specs.Part.{VeryPart}
 use Rattle.book.specs.declared.reading.SlipValue.{SlipValue}
 use Rattle.book.specs.Read.{readSlip}
 use Rattle.book.specs.Told.{valueOf, startOf, endOf}

@@ -1,5 +1,5 @@
 -- Reading a slip: 17 to 19, or the tag's value as that part of the book.
-use Prim.Native.Nat.{ℕ, _+_, _*_}
+use Prim.Native.Nat.{ℕ, _+_}
 use mathlib.Core.Bool.{Bool, true, false, not, _&&_}
 use mathlib.Core.List.{List, [], _∷_, map}
 use mathlib.Core.Option.{Option, none, some}
@@ -8,9 +8,9 @@ use lib.Dec.{eqb}
 use Rattle.text.specs.Bytes.{Text, pick}
 use Rattle.text.specs.Answer.{Answer, Test, test, first}
 use Rattle.text.specs.declared.refusal.Refusal.the-variants.{NoSlot, BadSlip, NoTag}
-use Rattle.tags.specs.Fields.{Expected, size, hasTag, fieldOf, taken}
+use Rattle.tags.specs.Fields.{countTag, headSize, Expected, size, hasTag, fieldOf, taken}
 unfoldable pub use Rattle.tags.specs.Fields.{isSlipFrom}
-use Rattle.slip.specs.Slot.{slotSize, noSlot}
+use Rattle.slip.specs.Slot.{slotSize, slotStart, noSlot}
 
 -- the five in their order
 abbrev pub expected : List Expected
@@ -30,9 +30,9 @@ span k n = some (record { start = k; end = k + n })
 
 -- where the value of a tag lies in a slip that begins at k
 unfoldable pub valueFrom : List Expected → ℕ → ℕ → Text → Option Part
-valueFrom [] tag k t = pick (eqb tag 6) (span (k + 3) 2) none
+valueFrom [] tag k t = pick (eqb tag countTag) (span (k + headSize) 2) none
 valueFrom (x ∷ xs) tag k t =
-    pick (eqb tag (x .tag) && hasTag tag t) (span (k + 3) (size t))
+    pick (eqb tag (x .tag) && hasTag tag t) (span (k + headSize) (size t))
     (valueFrom xs tag (k + taken x t) (drop (taken x t) t))
 
 abbrev pub isNone : {A : Type 0} → Option A → Bool
@@ -44,7 +44,7 @@ orNothing none = record { start = 0; end = 0 }
 orNothing (some p) = p
 
 abbrev pub slot : Text → ℕ → Text
-slot book k = take slotSize (drop (slotSize * k) book)
+slot book k = take slotSize (drop (slotStart k) book)
 
 -- the tests of a slot that begins at `base` of the book, and the one before them
 abbrev pub slipTests : Text → ℕ → ℕ → List Test
@@ -52,9 +52,9 @@ slipTests s base tag =
     test BadSlip (not (isSlip s)) ∷ test NoTag (isNone (valueFrom expected tag base s)) ∷ []
 
 abbrev pub readTests : Text → ℕ → ℕ → List Test
-readTests book k tag = test NoSlot (noSlot book k) ∷ slipTests (slot book k) (slotSize * k) tag
+readTests book k tag = test NoSlot (noSlot book k) ∷ slipTests (slot book k) (slotStart k) tag
 
 -- READING a tag of the slip in slot k
 unfoldable pub readSlip : Text → ℕ → ℕ → Answer Part
 readSlip book k tag =
-    first (readTests book k tag) (orNothing (valueFrom expected tag (slotSize * k) (slot book k)))
+    first (readTests book k tag) (orNothing (valueFrom expected tag (slotStart k) (slot book k)))

@@ -2,41 +2,48 @@
 ghost use mathlib.Core.Path.{_≡_};
 ghost use Prim.Native.Nat.{_+_, _≤_};
 ghost use lib.ListN.{length};
-ghost use Rattle.reader.specs.Part.{VeryPart};
-ghost use Rattle.slip.specs.Slot.{slotSize};
+ghost use Rattle.tags.specs.Fields.{headSize};
+ghost use Rattle.text.specs.Part.{VeryPart};
 ghost use Rattle.book.specs.declared.Value.the-variants.{Part};
 ghost use Rattle.book.specs.Read.{readSlip};
 ghost use Rattle.book.specs.Told.{valueOf, startOf, endOf};
-ghost use Rattle.book.specs.Inner.{readIn, Inside};
+ghost use Rattle.book.specs.Inner.{InBook, largest, readIn};
 ghost use Rattle.book.specs.Promise.{ReadsSlip};
 use crate::Value;
+use slip::SLOT_SIZE;
 use slip::no_slot;
+use slip::slot_start;
+use tags::CONTROL_TAG;
+use tags::COUNT_SIZE;
+use tags::COUNT_TAG;
 use tags::Field;
+use tags::HEAD_SIZE;
 use tags::ends_well;
-use tags::read_field;
+use tags::read_tag;
 use text::Refusal;
+use text::part;
 
 // The value of the field from `at` up to `end` of a slip that begins at `base` of the book: what stands behind its tag and its length.
 fn value_in(base: usize, at: usize, end: usize) -> Value
-    requires { ⌜ (base + at + 3 ≤ 18446744073709551615) × (base + end ≤ 18446744073709551615) ⌝ }
-    ensures { λ r. ⌜ r ≡ Part (base + at + 3) (base + end) ⌝ }
+    requires { ⌜ (base + at + headSize ≤ largest) × (base + end ≤ largest) ⌝ }
+    ensures { λ r. ⌜ r ≡ Part (base + at + headSize) (base + end) ⌝ }
 {
     Value::Part {
-        start: base + at + 3,
+        start: base + at + HEAD_SIZE,
         end: base + end,
     }
 }
 
 // BAD SLIP, NO TAG, or where the tag's value lies in the book: the slip s begins at `base` of the book.
 fn read_in(s: &[u8], base: usize, tag: u64) -> Value
-    requires { ⌜ (length (now s) ≡ slotSize) × (base + slotSize ≤ 18446744073709551615) ⌝ }
+    requires { ⌜ InBook (now s) base ⌝ }
     ensures { λ r. ⌜ valueOf r ≡ readIn (now (s .entry)) base tag ⌝ }
 {
     let mut found = Value::Refused(Refusal::NoTag);
     let mut at = 0;
-    let mut k: u8 = 1;
-    while k < 6 {
-        let Field::Ends(end) = read_field(s, at, k) else {
+    let mut k = CONTROL_TAG;
+    while k < COUNT_TAG {
+        let Field::Ends(end) = read_tag(s, at, k) else {
             return Value::Refused(Refusal::BadSlip);
         };
         if (tag == k as u64) & (at < end) {
@@ -48,8 +55,8 @@ fn read_in(s: &[u8], base: usize, tag: u64) -> Value
     if !ends_well(s, at) {
         return Value::Refused(Refusal::BadSlip);
     }
-    if tag == 6 {
-        return value_in(base, at, at + 5);
+    if tag == COUNT_TAG as u64 {
+        return value_in(base, at, at + COUNT_SIZE);
     }
     found
 }
@@ -61,18 +68,18 @@ pub fn find_value(book: &[u8], slot: usize, tag: u64) -> Value
     if no_slot(book, slot) {
         return Value::Refused(Refusal::NoSlot);
     }
-    let base = slot * 1024;
-    read_in(&book[base..base + 1024], base, tag)
+    let base = slot_start(book, slot);
+    read_in(&book[base..base + SLOT_SIZE], base, tag)
 }
 
 // The very part of the book that was found: no bytes, at its start, where it is refused.
 fn part_of<'a>(book: &'a [u8], v: Value) -> &'a [u8]
-    requires { ⌜ Inside v (length (now book)) ⌝ }
+    requires { ⌜ (startOf v ≤ endOf v) × (endOf v ≤ length (now book)) ⌝ }
     ensures { λ r. ⌜ VeryPart r (book .entry) (startOf v) (endOf v) ⌝ }
 {
     match v {
-        Value::Part { start, end } => &book[start..end],
-        Value::Refused(_) => &book[0..0],
+        Value::Part { start, end } => part(book, start, end),
+        Value::Refused(_) => part(book, 0, 0),
     }
 }
 

@@ -6,7 +6,7 @@ use Rattle.text.specs.Bytes.{Text}
 use Rattle.text.specs.Answer.{Answer}
 use Rattle.profile.specs.Table.{Table}
 use Rattle.numbers.specs.Told.{Tells}
-use Rattle.cabi.specs.Promise.{JudgeTells, LookUpTells, Writes, ResolveTells, ReplyTells, FileTells, ReadTells}
+use Rattle.cabi.specs.Promise.{JudgeTells, LookUpTells, WriteTells, ResolveTells, ReplyTells, FileTells, ReadTells}
 
 -- of any answer told by numbers
 tells-unique : {A : Type 0} {numbers : A → List ℕ} {a : Answer A} {before : List ℕ} {r s : ℕ} {after later : List ℕ}
@@ -15,7 +15,7 @@ tells-unique p q = (p .returned ∙ sym (q .returned), p .list ∙ sym (q .list)
 
 -- of any text written
 writes-unique : {a : Answer Text} {old before : List ℕ} {r s : ℕ} {new other after later : List ℕ}
-    → Writes a old before r new after → Writes a old before s other later → (r ≡ s) × ((new ≡ other) × (after ≡ later))
+    → WriteTells a old before r new after → WriteTells a old before s other later → (r ≡ s) × ((new ≡ other) × (after ≡ later))
 writes-unique p q =
     let t = tells-unique (p .told) (q .told) in
     (t .0, (p .buffer ∙ sym (q .buffer), t .1))

@@ -13,7 +13,7 @@ use Rattle.reader.specs.Fault.{judge}
 use Rattle.reply.specs.Reply.{reply}
 use Rattle.slip.specs.Book.{file, bookAfter}
 use Rattle.book.specs.Read.{readSlip}
-use Rattle.numbers.specs.Told.{status, Tells, verdictNumbers, foundNumbers, asked, sizeNumbers, partNumbers}
+use Rattle.numbers.specs.Told.{status, Tells, verdictNumbers, foundNumbers, placeAsked, sizeNumbers, partNumbers}
 
 -- JUDGING m by a table: ten numbers
 abbrev pub JudgeTells : Table → Text → List ℕ → ℕ → List ℕ → Type 0
@@ -21,21 +21,21 @@ JudgeTells T m before r after = Tells verdictNumbers (judge T m) before r after
 
 -- LOOKING UP a name and five numbers in m: three numbers
 abbrev pub LookUpTells : Text → Text → List ℕ → List ℕ → ℕ → List ℕ → Type 0
-LookUpTells m name n before r after = Tells foundNumbers (lookUp m (asked name n)) before r after
+LookUpTells m name n before r after = Tells foundNumbers (lookUp m (placeAsked name n)) before r after
 
 -- A TEXT WRITTEN into a buffer that held `old`: one number tells how many bytes
-pub record Writes (a : Answer Text) (old before : List ℕ) (r : ℕ) (new after : List ℕ) : Type 0 where
+pub record WriteTells (a : Answer Text) (old before : List ℕ) (r : ℕ) (new after : List ℕ) : Type 0 where
   pub told : Tells sizeNumbers (reported a) before r after
   pub buffer : new ≡ bufferAfter a old
 
 -- RESOLVING a text into a buffer
 abbrev pub ResolveTells : Text → Text → List ℕ → ℕ → Text → List ℕ → Type 0
-ResolveTells t old before r new after = Writes (resolve usual t (length old)) old before r new after
+ResolveTells t old before r new after = WriteTells (resolve usual t (length old)) old before r new after
 
 -- THE REPLY to m, judged by a table, into a buffer
 abbrev pub ReplyTells : Table → Text → Text → Text → Text → List ℕ → ℕ → Text → List ℕ → Type 0
 ReplyTells T m stamp number old before r new after =
-    Writes (reply T m stamp number (length old)) old before r new after
+    WriteTells (reply T m stamp number (length old)) old before r new after
 
 -- FILING group g of m, judged by a table, in slot k of a book that held `before`: the number returned is all that is told
 pub record FileTells (T : Table) (m : Text) (g k : ℕ) (before : Text) (r : ℕ) (after : Text) : Type 0 where

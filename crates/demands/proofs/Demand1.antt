@@ -1,6 +1,6 @@
 -- DEMAND 1: each call has one answer and only one, its refusals come in 01's order, and a refusal leaves what was lent.
 use mathlib.Core.Path.{_≡_, refl, sym, ap, _∙_}
-use Prim.Native.Nat.{ℕ, _+_, _*_}
+use Prim.Native.Nat.{ℕ, _+_}
 use mathlib.Core.List.{List, [], _∷_, _++_}
 use lib.ListN.{length}
 use denote.Ref.{RefT}
@@ -22,7 +22,7 @@ use Rattle.reader.specs.declared.Found as code-found
 use Rattle.reader.specs.LookUp.{Found, Empty, Text-from-to, found, lookUpTests, lookUp}
 use Rattle.reader.specs.Fault.{verdict, judge}
 use Rattle.reader.specs.Told.{placeOf, foundOf, verdictOf}
-use Rattle.reader.specs.Part.{VeryPart}
+use Rattle.text.specs.Part.{VeryPart}
 use Rattle.reader.specs.Part as part
 use Rattle.reader.specs.Promise.{LooksUp, Judges}
 use Rattle.reader.proofs.Unique.{judge-unique, look-up-unique}
@@ -31,7 +31,7 @@ use Rattle.reply.specs.Promise.{Replies}
 use Rattle.reply.proofs.Unique.{reply-unique}
 use Rattle.slip.specs.declared.Filed.{Filed}
 use Rattle.slip.specs.declared.Filed.the-variants as filed
-use Rattle.slip.specs.Slot.{slotSize}
+use Rattle.slip.specs.Slot.{slotStart}
 use Rattle.slip.specs.Slip.{slipText}
 use Rattle.slip.specs.Book.{fileTests, file, bookAfter}
 use Rattle.slip.specs.Told.{filedOf}
@@ -44,11 +44,11 @@ use Rattle.book.specs.Told.{valueOf, startOf, endOf}
 use Rattle.book.specs.Promise.{ReadsSlip}
 use Rattle.book.proofs.Unique.{read-slip-unique}
 use Rattle.book.proofs.ReadBack.{filed-untouched, filed-size}
-use Rattle.demands.specs.Demand1.{numbers, InOrder, Answers, Writes, sameLookUp, sameValue, frameNumbers, Demand1}
+use Rattle.demands.specs.Demand1.{refusalNumbers, InOrder, Answers, Writes, sameLookUp, sameValue, frameNumbers, Demand1}
 use Rattle.demands.proofs.Judged.{judged}
 
 -- 1. An answer by ordered refusals is in their order
-module _ {A : Type 0} (order : List ℕ) (ts : List Test) (numbered : numbers ts ≡ order) where
+module _ {A : Type 0} (order : List ℕ) (ts : List Test) (numbered : refusalNumbers ts ≡ order) where
   pub in-order : (asked : A) (a : Answer A) → a ≡ first ts asked → InOrder order ts a
   in-order asked a e =
       record {
@@ -73,7 +73,7 @@ module _ {R A : Type 0} (told : R → Answer A) (by : Answer A → R) (back : (a
         let d = means r after p in
         d .1 ∙ (ap left (told-refused f a n (sym e ∙ d .0)) ∙ stays n)
 
-    writes : (order : List ℕ) (ts : List Test) (t : Text) → numbers ts ≡ order → a ≡ first ts t → Writes promised before told order ts
+    writes : (order : List ℕ) (ts : List Test) (t : Text) → refusalNumbers ts ≡ order → a ≡ first ts t → Writes promised before told order ts
     writes order ts t n e =
         let r = by (tell f a) in
         record {
@@ -183,7 +183,7 @@ read-slip-answers book k tag =
       only-one = read-slip-unique book k tag;
       in-order =
           λ r h. in-order _ _ refl
-          (orNothing (valueFrom expected tag (slotSize * k) (slot (book .now) k))) (valueOf (r .sort)) (h .sort);
+          (orNothing (valueFrom expected tag (slotStart k) (slot (book .now) k))) (valueOf (r .sort)) (h .sort);
     }
 
 judge-answers : (m : Text) → Answers (Judges profile01 m) _≡_ verdictOf frameNumbers (frameTests m)

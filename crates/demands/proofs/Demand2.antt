@@ -1,9 +1,9 @@
 -- DEMAND 2: what the entries' promises say of the answers, of the bytes written and of the slips read back.
 use mathlib.Core.Path.{_≡_, refl, sym, ap, _∙_}
-use Prim.Native.Nat.{ℕ, _+_, _*_, _≤_}
+use Prim.Native.Nat.{ℕ, _+_, _≤_}
 use native.Mathlib.Omega.{arith}
 use mathlib.Core.Bool.{true, false, not}
-use mathlib.Core.List.{List, [], _∷_, _++_}
+use mathlib.Core.List.{List, [], _++_}
 use mathlib.Core.Option.{Option, none, some}
 use lib.ListN.{length, take, drop}
 use lib.Dec.{ltb}
@@ -28,11 +28,11 @@ use Rattle.reader.specs.declared.Verdict.{Verdict}
 use Rattle.reader.specs.declared.Verdict.the-variants.{Refused, Accepted, Fault}
 use Rattle.reader.specs.declared.search.LookedUp.{LookedUp}
 use Rattle.reader.specs.Place.{Place, textAt, startAt}
-use Rattle.reader.specs.LookUp.{Empty, Text-from-to, shown, found, lookUpTests, lookUp}
+use Rattle.reader.specs.LookUp.{Empty, Text-from-to, found, lookUpTests, lookUp}
 use Rattle.reader.specs.Told.{placeOf, foundOf}
 use Rattle.reader.specs.Fault.{checks, noneBroken, fault, verdict, judge}
 use Rattle.reader.specs.Promise.{LooksUp, Judges}
-use Rattle.reader.proofs.LookUp.{shown-step}
+use Rattle.reader.proofs.LookUp.{shown-step, shown-empty}
 use Rattle.reader.proofs.Part.{looked-up-text}
 use Rattle.reader.proofs.Accepted.{judged-accepted, accepted-judged, judged-fault}
 use Rattle.reader.proofs.Reasons.{fault-reason01}
@@ -40,7 +40,7 @@ use Rattle.reader.proofs.Unique.{verdict-same}
 use Rattle.reply.specs.Reply.{noControl, replyText, longestReply, replyTests, reply}
 use Rattle.reply.specs.Promise.{Replies}
 use Rattle.reply.proofs.Bound.{reply-bound}
-use Rattle.slip.specs.Slot.{slotSize, noSlot}
+use Rattle.slip.specs.Slot.{slotStart, noSlot}
 use Rattle.book.specs.declared.Value as code-value
 use Rattle.book.specs.declared.reading.SlipValue.{SlipValue}
 use Rattle.book.specs.Read.{Part, expected, isSlip, valueFrom, isNone, orNothing, slot, readTests, readSlip}
@@ -75,13 +75,9 @@ found-some m p a e h =
     let w = shown-step (startAt m p) a e t (first-asked (lookUpTests m p) (found m p) (Text-from-to a e) h) in
     (w .0, (w .1 .0, empty-some t (λ z. omega (arith, w .1 .1, z))))
 
-empty-step : (k : ℕ) (t : Text) → Empty ≡ shown k t → t ≡ []
-empty-step k [] h = refl
-empty-step k (b ∷ t) h = absurd (let z : _≡_ {A = ℕ} 0 1 = cc in omega arith)
-
 found-none : (m : Text) (p : Place) → given Empty ≡ lookUp m p → textAt m p ≡ []
 unfolding lookUp
-found-none m p h = empty-step (startAt m p) (textAt m p) (first-asked (lookUpTests m p) (found m p) Empty h)
+found-none m p h = shown-empty (startAt m p) (textAt m p) (first-asked (lookUpTests m p) (found m p) Empty h)
 
 module _ (m : RefT Text) (p : code.Place) (r : LookedUp) (l : LooksUp m p r) where
   sort-told : (f : code-found.Found) → r .sort ≡ f → foundOf f ≡ lookUp (m .now) (placeOf p)
@@ -165,7 +161,7 @@ value-read : (book : RefT Text) (k tag : ℕ) (r : SlipValue) (a e : ℕ) → Re
     → Holds book k tag a e (r .value)
 unfolding readSlip passes
 value-read book k tag r a e h s =
-    let o = valueFrom expected tag (slotSize * k) (slot (book .now) k) in
+    let o = valueFrom expected tag (slotStart k) (slot (book .now) k) in
     let told = ap valueOf (sym s) ∙ h .sort in
     let room = passes-rest (noSlot (book .now) k) _ (given-passes (readTests (book .now) k tag) (orNothing o) _ (sym told)) in
     let slip = passes-rest (not (isSlip (slot (book .now) k))) _ (room .1) in

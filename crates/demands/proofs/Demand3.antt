@@ -4,12 +4,11 @@ use Prim.Native.Nat.{ℕ}
 use mathlib.Core.Bool.{true}
 use lib.ListN.{length}
 use denote.Ref.{RefT}
-use Rattle.text.specs.Bytes.{Text, within, every, some, same}
+use Rattle.text.specs.Bytes.{Text, within}
 use Rattle.text.specs.Answer.{Answer, bufferAfter, reported, tell}
 use Rattle.text.specs.declared.Written.{Written}
 use Rattle.frame.specs.Frame.{framed}
 use Rattle.profile.specs.Table.{Table}
-use Rattle.profile.specs.Rows.{rows}
 use Rattle.profile.specs.Profile.{profile01}
 use Rattle.reader.specs.declared.Place as code
 use Rattle.reader.specs.declared.Found as code-found
@@ -28,13 +27,14 @@ use Rattle.slip.specs.Told.{done}
 use Rattle.slip.specs.Promise.{Files}
 use Rattle.slip.proofs.Unique.{file-unique}
 use Rattle.striking.specs.Strike.{isListedPlace, strike}
-use Rattle.striking.specs.Fit.{fit, hasCopies}
-use Rattle.demands.specs.Demand3.{shown, lookUpShown, shownBy, handedShown, SameShown, Unmoved, Demand3}
+use Rattle.profile.specs.Fit.{fit, hasCopies}
+use Rattle.profile.proofs.Fit.{profile-fit, profile-copies}
+use Rattle.demands.specs.Demand3.{shownFound, lookUpShown, shownBy, handedShown, SameShown, Unmoved, Demand3}
 use Rattle.demands.proofs.SameAnswers.{good′, checks-same, judge-same, look-same, reply-same, file-same}
 use Rattle.striking.proofs.Striking.{not-empty}
 
 -- what a look-up hands back has the bytes that its answer names
-shown-step : (f : code-found.Found) (t m : Text) → t ≡ within (startOf f) (endOf f) m → shownBy f t ≡ tell (shown m) (foundOf f)
+shown-step : (f : code-found.Found) (t m : Text) → t ≡ within (startOf f) (endOf f) m → shownBy f t ≡ tell (shownFound m) (foundOf f)
 shown-step (code-found.the-variants.Refused r) t m e = refl
 shown-step code-found.the-variants.Empty t m e = refl
 shown-step (code-found.the-variants.Text a b) t m e = rw e
@@ -42,7 +42,7 @@ shown-step (code-found.the-variants.Text a b) t m e = rw e
 handed : (m : RefT Text) (p : code.Place) (r : LookedUp) → LooksUp m p r → handedShown r ≡ lookUpShown (m .now) (placeOf p)
 handed m p r l =
     shown-step (r .sort) (r .text .now) (m .now) (l .text .bytes)
-    ∙ ap (λ (a : Answer Found). tell (shown (m .now)) a) (l .sort)
+    ∙ ap (λ (a : Answer Found). tell (shownFound (m .now)) a) (l .sort)
 
 module _ (T : Table) (ok : fit T ≡ true) (cs : hasCopies T ≡ true) (m : Text) (good : framed m ≡ true) where
   abbrev m′ : Text
@@ -92,15 +92,6 @@ module _ (T : Table) (ok : fit T ≡ true) (cs : hasCopies T ≡ true) (m : Text
               equal = λ r s after after' h l. file-unique T m′ g k before r s after after' (files g k before r after h) l;
             };
       }
-
--- 01's table is one of those
-profile-fit : fit profile01 ≡ true
-unfolding fit every some same profile01 rows
-profile-fit = refl
-
-profile-copies : hasCopies profile01 ≡ true
-unfolding hasCopies every some same profile01 rows
-profile-copies = refl
 
 -- DEMAND 3
 pub demand3 : Demand3

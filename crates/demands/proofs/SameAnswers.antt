@@ -29,8 +29,8 @@ use Rattle.reader.specs.Observations.{observations, observationsFrom, observati
 use Rattle.slip.specs.Slip.{slipText}
 use Rattle.slip.specs.Book.{file}
 use Rattle.striking.specs.Strike.{isListedPlace, strikeSegment, strike}
-use Rattle.striking.specs.Fit.{listsComponent, hasRow, fit, Copied, copied, copies, hasCopies}
-use Rattle.demands.specs.Demand3.{Shown, shown, lookUpShown}
+use Rattle.profile.specs.Fit.{listsComponent, hasRow, fit, Copied, copied, copies, hasCopies}
+use Rattle.demands.specs.Demand3.{Shown, shownFound, lookUpShown}
 use Rattle.striking.proofs.Kept.{name-struck}
 use Rattle.striking.proofs.Seen.{has-row}
 use Rattle.striking.proofs.Message.{L, strikes, segments-struck, view-same, frame-struck, marks-struck}
@@ -101,13 +101,13 @@ member P d (x ∷ l) a (suc i) h = member P d l (a .1) i (le-of-suc-le-suc h)
 
 -- 3. A look-up's text by its bytes
 shown-by : (m t : Text) (a : ℕ) (b : Bool) → take (length t) (drop a m) ≡ t
-    → shown m (pick b Empty (Text-from-to a (a + length t))) ≡ pick b Shown.Empty (Shown.Bytes t)
+    → shownFound m (pick b Empty (Text-from-to a (a + length t))) ≡ pick b Shown.Empty (Shown.Bytes t)
 shown-by m t a true h = refl
 shown-by m t a false h =
     let e : a + length t - a ≡ length t = omega arith in
     rw (e, h)
 
-shown-text : (m : Text) (p : Place) → shown m (found m p) ≡ pick (empty (textAt m p)) Shown.Empty (Shown.Bytes (textAt m p))
+shown-text : (m : Text) (p : Place) → shownFound m (found m p) ≡ pick (empty (textAt m p)) Shown.Empty (Shown.Bytes (textAt m p))
 shown-text m p = shown-by m (textAt m p) (startAt m p) (empty (textAt m p)) (text-stands m p)
 
 -- 4. The answers
@@ -228,14 +228,14 @@ module _ (T : Table) (ok : fit T ≡ true) (cs : hasCopies T ≡ true) (m : Text
   lastTests a b = test BadPlace a ∷ test NoSegment b ∷ []
 
   look-rest : (u : Text) (p : Place) → framed u ≡ true
-      → lookUpShown u p ≡ first (lastTests (not (isPlace p)) (tooFew u p)) (shown u (found u p))
+      → lookUpShown u p ≡ first (lastTests (not (isPlace p)) (tooFew u p)) (shownFound u (found u p))
   unfolding lookUp
   look-rest u p e =
-      tell-first (shown u) (lookUpTests u p) (found u p)
-      ∙ first-passed (frameTests u) (lastTests (not (isPlace p)) (tooFew u p)) (shown u (found u p)) e
+      tell-first (shownFound u) (lookUpTests u p) (found u p)
+      ∙ first-passed (frameTests u) (lastTests (not (isPlace p)) (tooFew u p)) (shownFound u (found u p)) e
 
   pub look-same : (p : Place) → isListedPlace T m p ≡ true → lookUpShown m′ p ≡ lookUpShown m p
   look-same p e =
       let few : tooFew m′ p ≡ tooFew m p = rw (occurrences-same T m (p .name) (both (isListed T (p .name)) _ e .0)) in
-      let shows : shown m′ (found m′ p) ≡ shown m (found m p) = shown-text m′ p ∙ rw (listed-text T m marks p e) (sym (shown-text m p)) in
+      let shows : shownFound m′ (found m′ p) ≡ shownFound m (found m p) = shown-text m′ p ∙ rw (listed-text T m marks p e) (sym (shown-text m p)) in
       look-rest m′ p good′ ∙ rw (few, shows) (sym (look-rest m p good))

@@ -7,7 +7,7 @@
 -- entry: there is one answer and only one, its refusals come in 01's order, and a refusal leaves what was lent.
 use mathlib.Core.Path.{_≡_}
 use mathlib.Core.Logic.{_⊎_}
-use Prim.Native.Nat.{ℕ, _+_, _*_, _≤_, _<_}
+use Prim.Native.Nat.{ℕ, _+_, _≤_, _<_}
 use mathlib.Core.Bool.{true}
 use mathlib.Core.List.{List, [], _∷_, _++_, map}
 use lib.ListN.{length, getD}
@@ -25,12 +25,12 @@ use Rattle.reader.specs.declared.Place.{Place}
 use Rattle.reader.specs.declared.search.LookedUp.{LookedUp}
 use Rattle.reader.specs.LookUp.{lookUpTests}
 use Rattle.reader.specs.Told.{placeOf, foundOf, verdictOf}
-use Rattle.reader.specs.Part.{SamePart}
+use Rattle.text.specs.Part.{SamePart}
 use Rattle.reader.specs.Promise.{LooksUp, Judges}
 use Rattle.reply.specs.Reply.{replyTests}
 use Rattle.reply.specs.Promise.{Replies}
 use Rattle.slip.specs.declared.Filed.the-variants.{Slip}
-use Rattle.slip.specs.Slot.{slotSize}
+use Rattle.slip.specs.Slot.{slotSize, slotStart}
 use Rattle.slip.specs.Book.{fileTests}
 use Rattle.slip.specs.Told.{filedOf}
 use Rattle.slip.specs.Promise.{Files}
@@ -40,12 +40,12 @@ use Rattle.book.specs.Told.{valueOf}
 use Rattle.book.specs.Promise.{ReadsSlip}
 
 -- the numbers of refusals, in the order in which they are tested
-abbrev pub numbers : List Test → List ℕ
-numbers ts = map (λ (t : Test). numberOf (t .refusal)) ts
+abbrev pub refusalNumbers : List Test → List ℕ
+refusalNumbers ts = map (λ (t : Test). numberOf (t .refusal)) ts
 
 -- AN ANSWER IN ORDER: a refusal is the first that applies, and what was asked for is given only where none applies
 pub record InOrder {A : Type 0} (order : List ℕ) (ts : List Test) (a : Answer A) : Type 0 where
-  pub numbered : numbers ts ≡ order
+  pub numbered : refusalNumbers ts ≡ order
   pub refusal : (r : Refusal) → a ≡ refused r → FirstRefusal ts r
   pub otherwise : (x : A) → a ≡ given x → passes ts ≡ true
 
@@ -74,7 +74,7 @@ sameValue r s = (r .sort ≡ s .sort) × SamePart (r .value) (s .value)
 -- ITS OWN SLOT ONLY: every byte outside slot k is as it was, and there are as many
 pub record OnlySlot (k : ℕ) (before after : Text) : Type 0 where
   pub size : length after ≡ length before
-  pub elsewhere : (i : ℕ) → (i < slotSize * k) ⊎ (slotSize * k + slotSize ≤ i) → getD after i 0 ≡ getD before i 0
+  pub elsewhere : (i : ℕ) → (i < slotStart k) ⊎ (slotStart k + slotSize ≤ i) → getD after i 0 ≡ getD before i 0
 
 -- those of the frame checks
 abbrev pub frameNumbers : List ℕ

@@ -5,7 +5,7 @@
 -- The checks of a message, in the order of 01's walk, are `checks` (reader); the bytes of a reply are `replyText` (reply), those of a slip
 -- `slipText` (slip). Here stands what the entries' promises say of them.
 use mathlib.Core.Path.{_≡_}
-use Prim.Native.Nat.{ℕ, _+_, _*_, _≤_}
+use Prim.Native.Nat.{ℕ, _+_, _≤_}
 use mathlib.Core.Bool.{true, false}
 use mathlib.Core.List.{[], _∷_, map}
 use mathlib.Core.Option.{some}
@@ -27,12 +27,12 @@ use Rattle.reader.specs.declared.search.LookedUp.{LookedUp}
 use Rattle.reader.specs.Place.{Place, textAt, startAt}
 use Rattle.reader.specs.Fault.{checks, noneBroken, FirstBroken, condition}
 use Rattle.reader.specs.Told.{placeOf}
-use Rattle.reader.specs.Part.{VeryPart}
+use Rattle.text.specs.Part.{VeryPart}
 use Rattle.reader.specs.Promise.{LooksUp, Judges}
 use Rattle.reply.specs.Reply.{replyText, longestReply}
 use Rattle.reply.specs.Promise.{Replies}
 use Rattle.slip.specs.declared.Filed.the-variants.{Slip}
-use Rattle.slip.specs.Slot.{slotSize}
+use Rattle.slip.specs.Slot.{slotStart}
 use Rattle.slip.specs.Slip.{slipValues, slipText}
 use Rattle.slip.specs.Promise.{Files}
 use Rattle.book.specs.declared.Value.the-variants as value
@@ -63,7 +63,7 @@ pub record Stands (m : RefT Text) (p : Place) (a e : ℕ) (part : RefT Text) : T
 -- book's memory
 pub record Holds (book : RefT Text) (k tag a e : ℕ) (part : RefT Text) : Type 0 where
   pub slip : isSlip (slot (book .now) k) ≡ true
-  pub lies : valueFrom expected tag (slotSize * k) (slot (book .now) k) ≡ some (record { start = a; end = e })
+  pub lies : valueFrom expected tag (slotStart k) (slot (book .now) k) ≡ some (record { start = a; end = e })
   pub very-part : VeryPart part book a e
 
 -- DEMAND 2

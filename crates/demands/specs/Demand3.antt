@@ -4,11 +4,10 @@
 -- reply for every stamp, reply number and buffer with what the buffer then holds, and the filing of every group in every slot and
 -- book with what the book then holds, or the refusal of either.
 use mathlib.Core.Path.{_≡_}
-use Prim.Native.Nat.{ℕ, _-_}
+use Prim.Native.Nat.{ℕ}
 use mathlib.Core.Bool.{true}
-use lib.ListN.{take, drop}
 use denote.Ref.{RefT}
-use Rattle.text.specs.Bytes.{Text}
+use Rattle.text.specs.Bytes.{Text, within}
 use Rattle.text.specs.Answer.{Answer, refused, given, tell}
 use Rattle.frame.specs.Frame.{framed}
 use Rattle.profile.specs.Table.{Table}
@@ -26,7 +25,7 @@ use Rattle.reply.specs.Promise.{Replies}
 use Rattle.slip.specs.Book.{file}
 use Rattle.slip.specs.Promise.{Files}
 use Rattle.striking.specs.Strike.{isListedPlace, strike}
-use Rattle.striking.specs.Fit.{fit, hasCopies}
+use Rattle.profile.specs.Fit.{fit, hasCopies}
 use Rattle.striking.specs.Striking.{NotEmpty}
 
 -- a look-up's answer by its bytes, since striking moves the starts
@@ -35,12 +34,12 @@ pub data Shown : Type 0 where
   Bytes : Text → Shown
 
 -- shown so: what the definition finds, and what the entry hands back
-abbrev pub shown : Text → Found → Shown
-shown m Found.Empty = Empty
-shown m (Text-from-to a e) = Bytes (take (e - a) (drop a m))
+abbrev pub shownFound : Text → Found → Shown
+shownFound m Found.Empty = Empty
+shownFound m (Text-from-to a e) = Bytes (within a e m)
 
 abbrev pub lookUpShown : Text → Place → Answer Shown
-lookUpShown m p = tell (shown m) (lookUp m p)
+lookUpShown m p = tell (shownFound m) (lookUp m p)
 
 abbrev pub shownBy : code-found.Found → Text → Answer Shown
 shownBy (code-found.the-variants.Refused r) t = refused r

@@ -1,5 +1,5 @@
 pub use Rattle.striking.specs.Strike
-pub use Rattle.striking.specs.Fit
+pub use Rattle.profile.specs.Fit
 pub use Rattle.striking.specs.Striking
 pub mod Contracts
 pub mod Demand1

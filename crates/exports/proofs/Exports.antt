@@ -1,6 +1,6 @@
 -- What the exported functions' promises come to: by the definitions that they share with the entries.
 use mathlib.Core.Path.{_≡_, refl, sym, ap, _∙_}
-use Prim.Native.Nat.{ℕ, _*_, _≤_}
+use Prim.Native.Nat.{ℕ, _≤_}
 use native.Mathlib.Omega.{arith}
 use mathlib.Core.Bool.{true}
 use mathlib.Core.List.{List, [], _∷_, _++_}
@@ -19,18 +19,18 @@ use Rattle.reader.specs.LookUp.{Found, Text-from-to, found, lookUpTests, lookUp
 use Rattle.reader.specs.Fault.{Verdict, accepted, fault, verdict, judge}
 use Rattle.reader.proofs.Reasons.{fault-reason01}
 use Rattle.reply.specs.Reply.{replyTests, replyText, reply}
-use Rattle.slip.specs.Slot.{slotSize}
+use Rattle.slip.specs.Slot.{slotStart}
 use Rattle.slip.specs.Slip.{slipText}
 use Rattle.slip.specs.Book.{fileTests, file, bookAfter}
 use Rattle.book.specs.Read.{slot, expected, valueFrom, orNothing, readTests, readSlip}
 use Rattle.slip.specs.Told.{done}
 use Rattle.demands.specs.Demand1.{InOrder, OnlySlot, frameNumbers}
 use Rattle.demands.specs.Strike.{isListedPlace, strike}
-use Rattle.demands.specs.Demand3.{shown, SameAfter, SameDefined}
+use Rattle.demands.specs.Demand3.{shownFound, SameAfter, SameDefined}
 use Rattle.demands.proofs.Demand1.{in-order, demand1}
 use Rattle.demands.proofs.Demand3.{demand3}
-use Rattle.cabi.specs.Told.{status, listAfter, Tells, verdictNumbers, foundNumbers, asked, sizeNumbers, partNumbers}
-use Rattle.cabi.specs.Promise.{JudgeTells, LookUpTells, Writes, FileTells, ReadTells}
+use Rattle.cabi.specs.Told.{status, listAfter, Tells, verdictNumbers, foundNumbers, placeAsked, sizeNumbers, partNumbers}
+use Rattle.cabi.specs.Promise.{JudgeTells, LookUpTells, WriteTells, FileTells, ReadTells}
 use Rattle.cabi.proofs.Unique.{judge-tells-unique, file-tells-unique}
 use Rattle.exports.specs.Exports.{Call, Lent, Resolved, Replied, textOf, SameText, Exported}
 
@@ -100,15 +100,15 @@ size-status : (a : Answer Text) → status (reported a) ≡ status a
 size-status (refused n) = refl
 size-status (given t) = refl
 
-abbrev Wrote : Answer Text → Lent → ℕ → Lent → Type 0
-Wrote a l r after = Writes a (l .buffer) (l .out) r (after .buffer) (after .out)
+abbrev ToldWritten : Answer Text → Lent → ℕ → Lent → Type 0
+ToldWritten a l r after = WriteTells a (l .buffer) (l .out) r (after .buffer) (after .out)
 
 abbrev lent-after : Lent → Answer Text → Lent
 lent-after l a = record { buffer = bufferAfter a (l .buffer); out = listAfter sizeNumbers (reported a) (l .out) }
 
-wrote : (a : Answer Text) (l : Lent) (order : List ℕ) (ts : List Test) → InOrder order ts a → Call a (Wrote a l) l order ts
+wrote : (a : Answer Text) (l : Lent) (order : List ℕ) (ts : List Test) → InOrder order ts a → Call a (ToldWritten a l) l order ts
 wrote a l =
-    call a (Wrote a l) l (lent-after l) (λ n. refl)
+    call a (ToldWritten a l) l (lent-after l) (λ n. refl)
     (λ r after p. (p .told .returned ∙ size-status a, λ i. record { buffer = p .buffer i; out = p .told .list i }))
     (record { told = record { returned = sym (size-status a); list = refl }; buffer = refl })
 
@@ -118,11 +118,11 @@ unfolding judge frameTests
 judges m out = told verdictNumbers (judge profile01 m) out _ _ (in-order _ _ refl (verdict profile01 m) (judge profile01 m) refl)
 
 looks-up : (m name : Text) (place out : List ℕ)
-    → Call (lookUp m (asked name place)) (LookUpTells m name place out) out
-    (frameNumbers ++ (9 ∷ 10 ∷ [])) (lookUpTests m (asked name place))
+    → Call (lookUp m (placeAsked name place)) (LookUpTells m name place out) out
+    (frameNumbers ++ (9 ∷ 10 ∷ [])) (lookUpTests m (placeAsked name place))
 unfolding lookUp frameTests
 looks-up m name place out =
-    let p = asked name place in
+    let p = placeAsked name place in
     told foundNumbers (lookUp m p) out _ _ (in-order _ _ refl (found m p) (lookUp m p) refl)
 
 resolves : (t : Text) (l : Lent)
@@ -155,7 +155,7 @@ reads-slip : (book : Text) (k tag : ℕ) (out : List ℕ)
 unfolding readSlip
 reads-slip book k tag out =
     told partNumbers (readSlip book k tag) out _ _
-    (in-order _ _ refl (orNothing (valueFrom expected tag (slotSize * k) (slot book k))) (readSlip book k tag) refl)
+    (in-order _ _ refl (orNothing (valueFrom expected tag (slotStart k) (slot book k))) (readSlip book k tag) refl)
 
 -- 4. Accepted, and the reason of a fault
 module _ (m : Text) (out after : List ℕ) (h : JudgeTells profile01 m out 0 after) where
@@ -194,7 +194,7 @@ told-status f (refused n) = refl
 told-status f (given x) = refl
 
 module _ (m m′ : Text) (out after after' : List ℕ) where
-  same-text : (a b : Answer Found) → tell (shown m′) b ≡ tell (shown m) a → Tells foundNumbers a out 0 after → Tells foundNumbers b out 0 after'
+  same-text : (a b : Answer Found) → tell (shownFound m′) b ≡ tell (shownFound m) a → Tells foundNumbers a out 0 after → Tells foundNumbers b out 0 after'
       → (getD after 0 0 ≡ getD after' 0 0) × (textOf m after ≡ textOf m′ after')
   same-text (refused n) b e p q = absurd (omega (arith, p .returned, number-from-1 n))
   same-text (given x) (refused n) e p q = absurd (omega (arith, q .returned, number-from-1 n))
@@ -229,16 +229,16 @@ module _ (m : Text) (good : framed m ≡ true) where
       λ r after h. record { returned = rw e (h .returned); book = rw e (h .book) } in
       record { as-struck = moved; equal = λ r s after after' h k. file-tells-unique profile01 m′ group slot book r s after after' (moved r after h) k }
 
-  looks-same : (name : Text) (place out : List ℕ) → isListedPlace profile01 m (asked name place) ≡ true
+  looks-same : (name : Text) (place out : List ℕ) → isListedPlace profile01 m (placeAsked name place) ≡ true
       → SameText m m′ (LookUpTells m name place out) (LookUpTells m′ name place out)
   looks-same name place out l =
-      let p = asked name place in
+      let p = placeAsked name place in
       let e = same .looks-up p l in
       record {
         number =
             λ r s after after' h k.
             h .returned
-            ∙ (sym (told-status (shown m) (lookUp m p)) ∙ (ap status (sym e) ∙ (told-status (shown m′) (lookUp m′ p) ∙ sym (k .returned))));
+            ∙ (sym (told-status (shownFound m) (lookUp m p)) ∙ (ap status (sym e) ∙ (told-status (shownFound m′) (lookUp m′ p) ∙ sym (k .returned))));
         text = λ after after' h k. same-text m m′ out after after' (lookUp m p) (lookUp m′ p) e h k;
       }
 

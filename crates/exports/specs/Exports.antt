@@ -26,7 +26,7 @@ use Rattle.book.specs.Read.{readTests, readSlip}
 use Rattle.demands.specs.Demand1.{InOrder, OnlySlot, frameNumbers}
 use Rattle.demands.specs.Strike.{isListedPlace, strike}
 use Rattle.demands.specs.Demand3.{SameAfter}
-use Rattle.cabi.specs.Told.{status, asked}
+use Rattle.cabi.specs.Told.{status, placeAsked}
 use Rattle.cabi.specs.Promise.{JudgeTells, LookUpTells, ResolveTells, ReplyTells, FileTells, ReadTells}
 
 -- A CALL. `a` is what the definition answers. `promised r after` means that the promise allows the number r, with lent memory that held `before`
@@ -67,7 +67,7 @@ pub record SameText (m m′ : Text) (came struck : ℕ → List ℕ → Type 0) 
 pub record Unaltered (m : Text) : Type 0 where
   pub judges : (out : List ℕ) → SameAfter (JudgeTells profile01 m out) (JudgeTells profile01 (strike profile01 m) out)
   pub looks-up :
-      (name : Text) (place out : List ℕ) → isListedPlace profile01 m (asked name place) ≡ true
+      (name : Text) (place out : List ℕ) → isListedPlace profile01 m (placeAsked name place) ≡ true
       → SameText m (strike profile01 m) (LookUpTells m name place out) (LookUpTells (strike profile01 m) name place out)
   pub replies : (stamp number : Text) (l : Lent) → SameAfter (Replied m stamp number l) (Replied (strike profile01 m) stamp number l)
   pub files :
@@ -81,8 +81,8 @@ pub record Exported : Type 0 where
   -- `ithwyral_look_up`: 1 to 8, 9, 10
   pub looks-up :
       (m name : Text) (place out : List ℕ)
-      → Call (lookUp m (asked name place)) (LookUpTells m name place out) out
-      (frameNumbers ++ (9 ∷ 10 ∷ [])) (lookUpTests m (asked name place))
+      → Call (lookUp m (placeAsked name place)) (LookUpTells m name place out) out
+      (frameNumbers ++ (9 ∷ 10 ∷ [])) (lookUpTests m (placeAsked name place))
   -- `ithwyral_resolve`: 20, then 14
   pub resolves :
       (t : Text) (l : Lent)

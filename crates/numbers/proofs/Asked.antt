@@ -13,7 +13,7 @@ use Rattle.frame.specs.Frame.{frameTests}
 use Rattle.frame.specs.Segments.{isName}
 use Rattle.reader.specs.Place.{Place, isPlace}
 use Rattle.reader.specs.LookUp.{lookUp, found}
-use Rattle.numbers.specs.Told.{asked}
+use Rattle.numbers.specs.Told.{placeAsked}
 use Rattle.numbers.specs.Inner.{SameLookUp}
 
 -- a name of three bytes is those three
@@ -44,5 +44,5 @@ unfolding lookUp
 none-same p q e f m = rw (e, f) (behind (frameTests m) _ _ BadPlace (found m p) (found m q))
 
 -- three zeros for a name that has not three bytes
-pub zeros-same : (name : Text) (n : List ℕ) → (length name ≡ 3 → ⊥) → SameLookUp (asked (0 ∷ 0 ∷ 0 ∷ []) n) (asked name n)
-zeros-same name n e = none-same (asked (0 ∷ 0 ∷ 0 ∷ []) n) (asked name n) refl (rw (no-name name e))
+pub zeros-same : (name : Text) (n : List ℕ) → (length name ≡ 3 → ⊥) → SameLookUp (placeAsked (0 ∷ 0 ∷ 0 ∷ []) n) (placeAsked name n)
+zeros-same name n e = none-same (placeAsked (0 ∷ 0 ∷ 0 ∷ []) n) (placeAsked name n) refl (rw (no-name name e))

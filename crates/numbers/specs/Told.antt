@@ -38,8 +38,8 @@ foundNumbers Empty = 0 ∷ 0 ∷ 0 ∷ []
 foundNumbers (Text-from-to a e) = 1 ∷ a ∷ e ∷ []
 
 -- the place that is asked for: a name of any length, and occurrence, field, repetition, component and subcomponent
-abbrev pub asked : Text → List ℕ → Place
-asked name n = place name (getD n 0 0) (getD n 1 0) (getD n 2 0) (getD n 3 0) (getD n 4 0)
+abbrev pub placeAsked : Text → List ℕ → Place
+placeAsked name n = place name (getD n 0 0) (getD n 1 0) (getD n 2 0) (getD n 3 0) (getD n 4 0)
 
 -- how many bytes were written
 abbrev pub sizeNumbers : ℕ → List ℕ

@@ -4,5 +4,6 @@ pub mod Leaves
 pub mod Fields
 pub mod Rows
 pub mod Profile
+pub mod Fit
 pub mod Numbers
 pub mod Order

@@ -4,12 +4,15 @@ use Prim.Native.Nat.{ℕ, zero, suc, _≤_, _<_}
 use native.Mathlib.Omega.{arith}
 use mathlib.Core.Bool.{true}
 use mathlib.Core.List.{List, [], _∷_}
-use lib.ListN.{length, getD}
+use lib.ListN.{length, List·getD-eq-default}
 use borrow.Author.Tests.{ltb-true}
-use Rattle.text.specs.Bytes.{Text}
+use Rattle.text.specs.Bytes.{Text, same}
+use Rattle.text.specs.declared.marks.Marks.{Marks}
 use Rattle.text.specs.Marks.{marksOf}
 use Rattle.parts.specs.Split.{piece}
-use Rattle.frame.specs.Segments.{segments, ofName, fewer, occurrence}
+use Rattle.parts.specs.Descent.{inField}
+use Rattle.parts.proofs.Descent.{piece-nil, part-nil}
+use Rattle.frame.specs.Segments.{segments, ofName, fewer, occurrence, field}
 use Rattle.checks.specs.Place.{place, leafAt, textAt}
 use Rattle.reader.specs.declared.standing.Standing.{Standing}
 use Rattle.reader.specs.declared.standing.Standing.the-variants.{Missing, Segment}
@@ -20,15 +23,15 @@ use Rattle.reader.proofs.Seek.{standing-missing, standing-inside, stand
 pub stood-inside : (m : Text) (s : Standing) (a e : ℕ) → s ≡ Segment a e → Stood m s → (a ≤ e) × (e ≤ length m)
 stood-inside m s a e g w = subst (Stood m) g w
 
--- a segment that is missing
-none-left : (l : List Text) (i : ℕ) → length l ≤ i → getD l i [] ≡ []
-none-left [] i h = refl
-none-left (x ∷ l) zero h = absurd (omega arith)
-none-left (x ∷ l) (suc i) h = none-left l i (omega arith)
+-- of no segment there is no leaf
+pub leaf-none : (q : Marks) (f r c b : ℕ) → leafAt q [] f r c b ≡ []
+unfolding leafAt field same
+leaf-none q f r c b = rw (piece-nil (q .field) f) (part-nil (inField q r c b))
 
+-- a segment that is missing
 piece-none : (l : List Text) (o : ℕ) → length l < o → piece o l ≡ []
 piece-none l zero h = refl
-piece-none l (suc i) h = none-left l i (omega arith)
+piece-none l (suc i) h = List·getD-eq-default l [] {n = i} (omega arith)
 
 missing-none : (m n : Text) (o : ℕ) → fewer m n o ≡ true → [] ≡ occurrence m n o
 missing-none m n o e = sym (piece-none (ofName n (segments m)) o (ltb-true (length (ofName n (segments m))) o e))

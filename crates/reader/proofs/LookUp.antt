@@ -1,16 +1,14 @@
 -- The text that a look-up finds is the very part of the message.
-use mathlib.Core.Path.{_≡_, sym, ap, subst, _∙_}
+use mathlib.Core.Path.{_≡_, refl, sym, ap, _∙_}
 use Prim.Native.Nat.{ℕ, _+_, _≤_, _<_}
 use native.Mathlib.Omega.{arith}
 use mathlib.Core.Bool.{Bool, true, false, not, _&&_}
 use mathlib.Core.List.{List, [], _∷_}
 use lib.ListN.{length, drop, length-take, length-drop}
-use denote.Ref.{RefT}
-use lib.Dec.{leb}
-use borrow.Author.Tests.{leb-true, not-true, not-false}
+use borrow.Author.Tests.{not-true, not-false}
 use Rattle.text.specs.Bytes.{Text, within}
 use Rattle.text.specs.Limits.{_to_, isWithin}
-use Rattle.text.proofs.Tests.{both}
+use Rattle.text.proofs.Tests.{both, within-low}
 use Rattle.text.specs.Answer.{Answer, refused, given, Test, test, first}
 use Rattle.text.specs.declared.refusal.Refusal.{Refusal}
 use Rattle.text.specs.declared.refusal.Refusal.the-variants.{BadPlace, NoSegment}
@@ -29,11 +27,10 @@ use Rattle.reader.specs.Copied.{standing}
 use Rattle.reader.proofs.Seek.{standing-missing, standing-enough, standing-start, standing-inside, standing-text}
 use Rattle.reader.specs.declared.Place as code
 use Rattle.reader.specs.declared.Found as code-found
-use Rattle.checks.specs.LookUp.{Found, Text-from-to, shown, found, tooFew, lookUpTests, lookUp}
+use Rattle.checks.specs.LookUp.{Found, Empty, Text-from-to, shown, found, tooFew, lookUpTests, lookUp}
 use Rattle.seek.specs.Inner.{leafFound}
 use Rattle.reader.specs.Told.{placeOf, foundOf}
 use Rattle.reader.specs.Inner.{Inside}
-use Rattle.reader.specs.Part.{VeryPart, startOf, endOf}
 use Rattle.checks.proofs.Stands.{text-stands}
 use Rattle.checks.specs.Place.{Place, isPlace, textAt, startAt}
 
@@ -41,6 +38,10 @@ use Rattle.checks.specs.Place.{Place, isPlace, textAt, startAt}
 pub shown-step : (k a e : ℕ) (t : Text) → Text-from-to a e ≡ shown k t → (a ≡ k) × ((e ≡ k + length t) × (0 < length t))
 shown-step k a e [] h = absurd (let z : _≡_ {A = ℕ} 0 1 = cc in omega arith)
 shown-step k a e (b ∷ t) h = (cc, (cc, omega arith))
+
+pub shown-empty : (k : ℕ) (t : Text) → Empty ≡ shown k t → t ≡ []
+shown-empty k [] h = refl
+shown-empty k (b ∷ t) h = absurd (let z : _≡_ {A = ℕ} 0 1 = cc in omega arith)
 
 text-inside : (m : Text) (p : Place) (a e : ℕ) → Text-from-to a e ≡ found m p → (a ≤ e) × (e ≤ length m)
 text-inside m p a e h =
@@ -61,13 +62,6 @@ found-inside m p (code-found.the-variants.Text a e) h =
 -- what is shown of a leaf that is seen
 pub shown-as : (f : code-found.Found) (l t : Found) → foundOf f ≡ given l → l ≡ t → foundOf f ≡ given t
 shown-as f l t h k = h ∙ ap given k
-
--- along which case of the answer it is
-pub inside-as : (f g : code-found.Found) (k : ℕ) → f ≡ g → Inside f k → Inside g k
-inside-as f g k e w = subst (λ (x : code-found.Found). Inside x k) e w
-
-pub part-as : (f g : code-found.Found) (r m : RefT Text) → f ≡ g → VeryPart r m (startOf g) (endOf g) → VeryPart r m (startOf f) (endOf f)
-part-as f g r m e w = subst (λ (x : code-found.Found). VeryPart r m (startOf x) (endOf x)) (sym e) w
 
 -- NO SEGMENT, and what is found where the segment stands
 module _ (m : Text) (p : code.Place) where
@@ -95,9 +89,6 @@ module _ (m : Text) (p : code.Place) where
   looked-inside r a e s h = standing-inside m n (p .occurrence) a e (h ∙ s)
 
 -- the ways out of a look-up
-within-low : (a b n : ℕ) → isWithin (a to b) n ≡ true → a ≤ n
-within-low a b n e = leb-true a n (both (leb a n) (leb n b) e .0)
-
 pub place-numbers : (p : Place) (b : Bool) → b ≡ isPlace p → not b ≡ false → (1 ≤ p .occurrence) × (1 ≤ p .field)
 place-numbers p b e n =
     let all = sym e ∙ not-false b n in

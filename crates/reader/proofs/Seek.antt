@@ -5,8 +5,8 @@ use native.Mathlib.Omega.{arith}
 use mathlib.Core.Bool.{Bool, true, false}
 use mathlib.Core.List.{List, [], _∷_}
 use lib.ListN.{length, getD, drop}
-use lib.Dec.{ltb}
-use borrow.Author.Tests.{lt-ltb, le-ltb, ltb-true, ltb-false}
+use lib.Dec.{ltb, leb·suc-suc}
+use borrow.Author.Tests.{lt-ltb, le-ltb}
 use Rattle.text.specs.Bytes.{Text, pick, cr, keep, within}
 use Rattle.parts.specs.Split.{before, reach}
 use Rattle.parts.proofs.Split.{before-first, before-le, stands-le}
@@ -34,13 +34,6 @@ sought-first m n (suc i) h =
     let z : 0 + before cr m (ahead n (segments m) i) ≡ before cr m (ahead n (segments m) i) = omega arith in
     rw (e, z)
 
-ltb-step : (a b : ℕ) (c : Bool) → ltb a b ≡ c → ltb (suc a) (suc b) ≡ c
-ltb-step a b true e = lt-ltb (suc a) (suc b) (omega (arith, ltb-true a b e))
-ltb-step a b false e = le-ltb (suc a) (suc b) (omega (arith, ltb-false a b e))
-
-ltb-suc : (a b : ℕ) → ltb (suc a) (suc b) ≡ ltb a b
-ltb-suc a b = ltb-step a b (ltb a b) refl
-
 -- a segment of another name is passed; one of that name is counted
 passed : (n s : Text) (ss : List Text) (i : ℕ) → named n s ≡ false → ahead n (s ∷ ss) i ≡ suc (ahead n ss i)
 unfolding ahead
@@ -67,14 +60,14 @@ module _ (m n : Text) (p : Standing) (start end : ℕ) (inside : start ≤ lengt
 
     another : (i : ℕ) → named n s ≡ true → from-here m n start (s ∷ ss) (suc i) ≡ from-here m n (end + 1) ss i
     unfolding keep ahead
-    another i e = rw (e, ltb-suc (length (ofName n ss)) (suc i), behind (ahead n ss i))
+    another i e = rw (e, leb·suc-suc (suc (length (ofName n ss))) (suc i), behind (ahead n ss i))
 
     this : named n s ≡ true → from-here m n start (s ∷ ss) 0 ≡ Segment start end
     unfolding keep ahead
     this e =
         let z : start + before cr (drop start m) 0 ≡ start = omega (arith, before-first cr (drop start m)) in
         let l : start + length s ≡ end = omega (arith, ends, within-length m start end (omega arith) (omega arith)) in
-        rw (e, ltb-suc (length (ofName n ss)) 0, le-ltb (length (ofName n ss)) 0 (omega arith), z, l)
+        rw (e, leb·suc-suc (suc (length (ofName n ss))) 0, le-ltb (length (ofName n ss)) 0 (omega arith), z, l)
 
     module _ (left : ℕ) (some : 1 ≤ left) (h : Sought m n p left start) (r : Bool) (read : r ≡ named n s) where
       told : from-here m n start (s ∷ ss) (left - 1) ≡ p

@@ -5,6 +5,7 @@ use mathlib.Core.Path.{_≡_, sym, _∙_}
 use lib.ListN.{getD}
 use denote.Ref.{RefT}
 use Rattle.text.specs.Bytes.{Text}
+use Rattle.text.proofs.SamePart.{part-same}
 use Rattle.profile.specs.Table.{Table}
 use Rattle.reader.specs.declared.Place.{Place}
 use Rattle.reader.specs.declared.Found.{Found}
@@ -14,7 +15,7 @@ use Rattle.reader.specs.declared.Verdict.the-variants as verdict
 use Rattle.reader.specs.declared.search.LookedUp.{LookedUp}
 use Rattle.checks.specs.LookUp.{lookUp}
 use Rattle.reader.specs.Told.{placeOf, foundOf, verdictOf}
-use Rattle.reader.specs.Part.{VeryPart, SamePart, startOf, endOf}
+use Rattle.reader.specs.Part.{SamePart, startOf, endOf}
 use Rattle.reader.specs.Promise.{LooksUp, Judges}
 
 -- an answer is what is told of it
@@ -31,11 +32,6 @@ found-same (found.Text i j) (found.Text k l) e = cc
 
 pub find-unique : (m : Text) (p : Place) (f g : Found) → foundOf f ≡ lookUp m (placeOf p) → foundOf g ≡ lookUp m (placeOf p) → f ≡ g
 find-unique m p f g a b = found-same f g (a ∙ sym b)
-
--- two parts that are that very part of one message
-pub part-same : (r s m : RefT Text) (a e : ℕ) → VeryPart r m a e → VeryPart s m a e → SamePart r s
-part-same r s m a e p q =
-    record { bytes = p .bytes ∙ sym (q .bytes); block = p .block ∙ sym (q .block); offset = p .offset ∙ sym (q .offset) }
 
 pub look-up-unique : (m : RefT Text) (p : Place) (r s : LookedUp) → LooksUp m p r → LooksUp m p s
     → (r .sort ≡ s .sort) × SamePart (r .text) (s .text)

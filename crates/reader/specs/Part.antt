@@ -1,22 +1,8 @@
--- The very part of a lent message: its bytes, and where they lie.
-use Prim.Native.Nat.{ℕ, _+_}
-use mathlib.Core.Path.{_≡_}
-use denote.Ref.{RefT}
-use Rattle.text.specs.Bytes.{Text, within}
+-- The very part of the message that a look-up answers with. (The very part of lent bytes is text's own.)
+use Prim.Native.Nat.{ℕ}
+pub use Rattle.text.specs.Part.{VeryPart, SamePart}
 use Rattle.reader.specs.declared.Found.{Found}
 use Rattle.reader.specs.declared.Found.the-variants as found
-
--- r is the part of m from a up to e: the same block of memory, a bytes further on. (A reference's ghost name is the logic's own.)
-pub record VeryPart (r m : RefT Text) (a e : ℕ) : Type 0 where
-  pub bytes : r .now ≡ within a e (m .now)
-  pub block : r .ptr .0 ≡ m .ptr .0
-  pub offset : r .ptr .1 ≡ m .ptr .1 + a
-
--- two such parts of one message: the same bytes, in the same block, from the same byte on
-pub record SamePart (r s : RefT Text) : Type 0 where
-  pub bytes : r .now ≡ s .now
-  pub block : r .ptr .0 ≡ s .ptr .0
-  pub offset : r .ptr .1 ≡ s .ptr .1
 
 -- the part that an answer names: of no text, no bytes at the message's start
 abbrev pub startOf : Found → ℕ

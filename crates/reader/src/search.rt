@@ -23,6 +23,7 @@ use seek::Seen;
 use seek::leaf;
 use text::Refusal;
 use text::marks_of;
+use text::part;
 
 // What is seen of a leaf, as a look-up's answer.
 fn shown(l: Seen) -> Found
@@ -72,9 +73,9 @@ fn text_of<'a>(m: &'a [u8], f: Found) -> &'a [u8]
     ensures { λ r. ⌜ VeryPart r (m .entry) (startOf f) (endOf f) ⌝ }
 {
     match f {
-        Found::Text { start, end } => &m[start..end],
-        Found::Empty => &m[0..0],
-        Found::Refused(_) => &m[0..0],
+        Found::Text { start, end } => part(m, start, end),
+        Found::Empty => part(m, 0, 0),
+        Found::Refused(_) => part(m, 0, 0),
     }
 }
 

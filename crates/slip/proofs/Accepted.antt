@@ -11,6 +11,7 @@ use Rattle.frame.specs.Segments.{fewer}
 use Rattle.profile.specs.Profile.{profile01}
 use Rattle.reader.specs.Fault.{verdict, accepted}
 use Rattle.reader.specs.Place.{Place, place, textAt}
+use Rattle.slot.specs.Fields.{longestControl, longestText}
 use Rattle.reader.proofs.Plain.{text-plain}
 use Rattle.reader.proofs.Patient.{patient-stands}
 use Rattle.slip.proofs.Fitting.{Taken, Fitting}
@@ -25,11 +26,11 @@ module _ (m : Text) (f : framed m ≡ true) (a : verdict profile01 m ≡ accepte
   fitting g l e =
       let pid = patient-stands m f a in
       record {
-        control = record { taken = taken (place (bytes "MSH") 1 10 1 1 1) 20 (control-fits m f a); some = control-some m f a };
-        patient = record { taken = taken (place (bytes "PID") 1 3 1 1 1) 199 (patient-fits m f a pid); some = patient-some m f a pid };
-        placer = taken (place (bytes "OBR") g 2 1 1 1) 199 (placer-fits m f a g l e);
-        filler = record { taken = taken (place (bytes "OBR") g 3 1 1 1) 199 (filler-fits m f a g l e); some = filler-some m f a g l e };
-        service = record { taken = taken (place (bytes "OBR") g 4 1 1 1) 199 (service-fits m f a g l e); some = service-some m f a g l e };
+        control = record { taken = taken (place (bytes "MSH") 1 10 1 1 1) longestControl (control-fits m f a); some = control-some m f a };
+        patient = record { taken = taken (place (bytes "PID") 1 3 1 1 1) longestText (patient-fits m f a pid); some = patient-some m f a pid };
+        placer = taken (place (bytes "OBR") g 2 1 1 1) longestText (placer-fits m f a g l e);
+        filler = record { taken = taken (place (bytes "OBR") g 3 1 1 1) longestText (filler-fits m f a g l e); some = filler-some m f a g l e };
+        service = record { taken = taken (place (bytes "OBR") g 4 1 1 1) longestText (service-fits m f a g l e); some = service-some m f a g l e };
         count = observations-most m g f a l e;
       }
 

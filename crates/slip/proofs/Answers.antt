@@ -1,12 +1,12 @@
 -- The answers of filing: the first refusal that applies, or the slip in its slot.
 use mathlib.Core.Path.{_≡_, refl, sym, ap, _∙_}
-use Prim.Native.Nat.{ℕ, _+_, _*_, _/_, _≤_}
+use Prim.Native.Nat.{ℕ}
 use native.Mathlib.Omega.{arith}
 use mathlib.Core.Bool.{true, false, not}
 use mathlib.Core.List.{List, _∷_}
 use lib.ListN.{length}
 use lib.Dec.{eqb, ltb}
-use borrow.Author.Tests.{leb-false, eq-eqb, ne-eqb}
+use borrow.Author.Tests.{eq-eqb, ne-eqb}
 use Rattle.text.specs.Bytes.{Text, bytes}
 use Rattle.text.specs.Answer.{Answer, refused, given, Test, test, first, tell}
 use Rattle.text.specs.Puts.{Puts}
@@ -24,7 +24,7 @@ use Rattle.reader.specs.declared.Fault as code-fault
 use Rattle.reader.specs.declared.Verdict as code-verdict
 use Rattle.reader.specs.Fault.{Verdict, verdict, accepted, fault, judge}
 use Rattle.reader.specs.Told.{placeOf, verdictOf}
-use Rattle.slot.specs.Slot.{slotSize, noSlot}
+use Rattle.slot.specs.Slot.{slotSize, slotStart, noSlot}
 use Rattle.slip.specs.declared.Filed.{Filed}
 use Rattle.slip.specs.declared.Filed.the-variants.{Refused, Slip}
 use Rattle.slip.specs.Slip.{slipText}
@@ -46,10 +46,6 @@ module _ (m : Text) (g : ℕ) where
 
   group-there : (a e : ℕ) → IsOrder m g a e → noGroup m g ≡ false
   group-there a e o = rw (ne-eqb g 0 (λ z. omega (arith, o .0)), standing-enough m (bytes "OBR") g a e (o .1))
-
--- a slot of the book lies within it
-pub slot-room : (book : Text) (k : ℕ) → noSlot book k ≡ false → 1024 * k + 1024 ≤ length book
-slot-room book k e = omega (arith, leb-false (length book / 1024) k e)
 
 -- filing a group of an accepted message
 module _ (m : Text) (g k : ℕ) (before : Text) where
@@ -73,11 +69,10 @@ module _ (m : Text) (g k : ℕ) (before : Text) where
     unfolding first
     own-slot n = own (Refused NoSlot) before (refused NoSlot) (rw (group-there m g a e o, n)) refl refl
 
-    pub own-slip : noSlot before k ≡ false → (slip after : Text) (r : ℕ) → length slip ≡ 1024 → slip ≡ slipText m g
-        → Puts before (k * 1024) slip after r → FilesOwn m g k before Slip after
+    pub own-slip : noSlot before k ≡ false → (slip after : Text) (at r : ℕ) → length slip ≡ slotSize → slip ≡ slipText m g
+        → at ≡ slotStart k → Puts before at slip after r → FilesOwn m g k before Slip after
     unfolding first
-    own-slip there slip after r n s p =
-        let z : k * 1024 ≡ slotSize * k = omega arith in
+    own-slip there slip after at r n s z p =
         own Slip after (given (slipText m g)) (rw (group-there m g a e o, there)) refl
         (p .holds ∙ rw (n, z, s))
 

@@ -8,7 +8,7 @@ use lib.ListN.{length, getD, drop}
 use borrow.Author.Tests.{ltb-false}
 use Rattle.text.specs.Bytes.{Text, pick, bytes, keep, same}
 use Rattle.text.proofs.Tests.{same-true}
-use Rattle.text.proofs.Lists.{or-either}
+use Rattle.text.proofs.Lists.{or-either, keep-most, keep-apart}
 use Rattle.frame.specs.Segments.{segments, name, named, ofName, fewer}
 use Rattle.frame.specs.Frame.{framed}
 use Rattle.frame.proofs.Frame.{framed-tests}
@@ -17,28 +17,7 @@ use Rattle.reader.specs.Fault.{verdict, accepted}
 use Rattle.frame.proofs.Header.{header-opens}
 use Rattle.reader.proofs.Patient.{patient-stands}
 use Rattle.reader.specs.Observations.{observations, observationsFrom, observationsOf}
-
--- how many members two tests keep that never hold together
-module _ {A : Type 0} (f g : A → Bool) (apart : (x : A) → f x ≡ true → g x ≡ false) where
-  apart-step : (x : A) (k l r : List A) (b c : Bool) → (b ≡ true → c ≡ false) → length k + length l ≤ length r
-      → length (pick b (x ∷ k) k) + length (pick c (x ∷ l) l) ≤ length (pick (b || c) (x ∷ r) r)
-  apart-step x k l r true c e h = rw (e refl) (omega arith)
-  apart-step x k l r false true e h = omega arith
-  apart-step x k l r false false e h = h
-
-  keep-apart : (l : List A) → length (keep f l) + length (keep g l) ≤ length (keep (λ x. f x || g x) l)
-  unfolding keep
-  keep-apart [] = omega arith
-  keep-apart (x ∷ l) = apart-step x (keep f l) (keep g l) (keep (λ y. f y || g y) l) (f x) (g x) (apart x) (keep-apart l)
-
-keep-most-step : {A : Type 0} (x : A) (k l : List A) (b : Bool) → length k ≤ length l → length (pick b (x ∷ k) k) ≤ suc (length l)
-keep-most-step x k l true h = omega arith
-keep-most-step x k l false h = omega arith
-
-keep-most : {A : Type 0} (f : A → Bool) (l : List A) → length (keep f l) ≤ length l
-unfolding keep
-keep-most f [] = omega arith
-keep-most f (x ∷ l) = keep-most-step x (keep f l) l (f x) (keep-most f l)
+use Rattle.slot.specs.Fields.{greatestCount}
 
 -- the four names, no two of which a segment has
 abbrev header : Text
@@ -117,7 +96,7 @@ unfolding keep same
 one-header h ss n = rw n (omega arith)
 
 pub observations-most : (m : Text) (g : ℕ) → framed m ≡ true → verdict profile01 m ≡ accepted → 1 ≤ g → fewer m (bytes "OBR") g ≡ false
-    → observationsOf m g ≤ 509
+    → observationsOf m g ≤ greatestCount
 observations-most m zero f a l e = omega arith
 observations-most m (suc i) f a l e =
     let o = header-opens m f in

@@ -3,7 +3,7 @@ use mathlib.Core.Path.{_≡_, _∙_}
 use Prim.Native.Nat.{ℕ, _+_, _≤_}
 use native.Mathlib.Omega.{arith}
 use mathlib.Core.Bool.{true}
-use lib.ListN.{drop}
+use lib.ListN.{drop, replicate}
 use Rattle.text.specs.Bytes.{Text, bytes}
 use Rattle.text.specs.Marks.{marksOf}
 use Rattle.text.specs.declared.marks.Marks.{Marks}
@@ -18,8 +18,9 @@ use Rattle.reader.specs.Copied.{segmentText}
 use Rattle.reader.specs.Fault.{verdict, accepted}
 use Rattle.reader.specs.Place.{place, leafAt, textAt}
 use Rattle.reader.proofs.Copied.{copied-text}
-use Rattle.slot.specs.Slot.{slipOf}
-use Rattle.slot.specs.Inner.{Fits, valuesOf}
+use Rattle.slot.specs.Fields.{longestControl, longestText}
+use Rattle.slot.specs.Slot.{slotSize, slipOf}
+use Rattle.slot.specs.Inner.{Takes, Fillable, valuesOf}
 use Rattle.reader.specs.Observations.{observations, observationsOf}
 use Rattle.slip.specs.Slip.{slipText}
 use Rattle.slip.specs.Inner.{IsOrder}
@@ -28,8 +29,8 @@ use Rattle.slip.proofs.Accepted.{accepted-fitting}
 use Rattle.slip.proofs.Groups.{group-count}
 
 -- a text that an accepted message has for a slip fits
-taken-fits : (q q' : Marks) (t t' : Text) (most : ℕ) → q ≡ q' → t ≡ t' → most ≤ 199 → Taken q' most t' → Fits q t
-taken-fits q q' t t' most e k l f = rw (e, k) (f .good, omega (arith, f .short))
+taken-fits : (q q' : Marks) (t t' : Text) (most : ℕ) → q ≡ q' → t ≡ t' → most ≤ longestText → Taken q' most t' → Takes q t
+taken-fits q q' t t' most e k l f = rw (e, k) (record { good = f .good; short = omega (arith, f .short) })
 
 -- what is read for a slip
 pub record IsRead (m : Text) (a e : ℕ) (header patient : Standing) (q : Marks) (control identity placer filler service : Text) : Type 0 where
@@ -53,22 +54,18 @@ module _ {m : Text} {a e : ℕ} {header patient : Standing} {q : Marks} {control
   order-read : (f : ℕ) → leafAt (marksOf m) (segmentText m (Segment a e)) f 1 1 1 ≡ textAt m (place (bytes "OBR") g f 1 1 1)
   order-read f = copied-text m (bytes "OBR") g (Segment a e) f 1 (o .1)
 
-  pub group-fits : framed m ≡ true → verdict profile01 m ≡ accepted
-      → Fits q control × (Fits q identity × (Fits q placer × (Fits q filler × Fits q service)))
-  group-fits f v =
-      let fit = accepted-fitting m g f v (o .0) (standing-enough m (bytes "OBR") g a e (o .1)) in (
-        taken-fits q _ control _ 20 (r .marks) control-read (omega arith) (fit .control .taken),
-        (
-          taken-fits q _ identity _ 199 (r .marks) identity-read (omega arith) (fit .patient .taken),
-          (
-            taken-fits q _ placer _ 199 (r .marks) (r .placer-text ∙ order-read 2) (omega arith) (fit .placer),
-            (
-              taken-fits q _ filler _ 199 (r .marks) (r .filler-text ∙ order-read 3) (omega arith) (fit .filler .taken),
-              taken-fits q _ service _ 199 (r .marks) (r .service-text ∙ order-read 4) (omega arith) (fit .service .taken),
-            ),
-          ),
-        ),
-      )
+  pub group-fits : framed m ≡ true → verdict profile01 m ≡ accepted → (slip : Text) → slip ≡ replicate slotSize 0
+      → Fillable q slip control identity placer filler service
+  group-fits f v slip z =
+      let fit = accepted-fitting m g f v (o .0) (standing-enough m (bytes "OBR") g a e (o .1)) in
+      record {
+        zeros = z;
+        takes-control = taken-fits q _ control _ longestControl (r .marks) control-read (omega arith) (fit .control .taken);
+        takes-patient = taken-fits q _ identity _ longestText (r .marks) identity-read (omega arith) (fit .patient .taken);
+        takes-placer = taken-fits q _ placer _ longestText (r .marks) (r .placer-text ∙ order-read 2) (omega arith) (fit .placer);
+        takes-filler = taken-fits q _ filler _ longestText (r .marks) (r .filler-text ∙ order-read 3) (omega arith) (fit .filler .taken);
+        takes-service = taken-fits q _ service _ longestText (r .marks) (r .service-text ∙ order-read 4) (omega arith) (fit .service .taken);
+      }
 
   -- THE SLIP of the group
   pub group-slip : (n : ℕ) (slip : Text) → n ≡ observations (segments (drop (e + 1) m))

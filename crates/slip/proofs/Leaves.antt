@@ -12,18 +12,20 @@ use Rattle.frame.specs.Segments.{fewer}
 use Rattle.profile.specs.Rows.{rows}
 use Rattle.profile.specs.Profile.{profile01}
 use Rattle.reader.specs.Place.{place, textAt}
+use Rattle.slot.specs.Fields.{longestControl, longestText}
 use Rattle.reader.specs.Fault.{verdict, accepted}
 use Rattle.frame.proofs.Header.{header-there}
 use Rattle.reader.proofs.AcceptedRows.{accepted-fits, accepted-starred, accepted-only}
 
-abbrev Fits : Text → ℕ → Text → Type 0
-Fits m most t = (badEscape (marksOf m) t ≡ false) × (length t ≤ most)
+-- a text of the message has no bad escape, and at most so many bytes
+abbrev KeepsLimit : Text → ℕ → Text → Type 0
+KeepsLimit m most t = (badEscape (marksOf m) t ≡ false) × (length t ≤ most)
 
 module _ (m : Text) (good : framed m ≡ true) (ok : verdict profile01 m ≡ accepted) where
   -- the message control ID, the only leaf of MSH-10
-  pub control-fits : Fits m 20 (textAt m (place (bytes "MSH") 1 10 1 1 1))
+  pub control-fits : KeepsLimit m longestControl (textAt m (place (bytes "MSH") 1 10 1 1 1))
   unfolding some same profile01 rows
-  control-fits = accepted-fits profile01 m ok (bytes "MSH") 1 (omega arith) (header-there m good) 10 1 1 20 refl 1
+  control-fits = accepted-fits profile01 m ok (bytes "MSH") 1 (omega arith) (header-there m good) 10 1 1 longestControl refl 1
 
   pub control-some : 1 ≤ length (textAt m (place (bytes "MSH") 1 10 1 1 1))
   unfolding some every same profile01 rows
@@ -31,9 +33,9 @@ module _ (m : Text) (good : framed m ≡ true) (ok : verdict profile01 m ≡ acc
 
   -- the patient's number, PID-3
   module _ (there : fewer m (bytes "PID") 1 ≡ false) where
-    pub patient-fits : Fits m 199 (textAt m (place (bytes "PID") 1 3 1 1 1))
+    pub patient-fits : KeepsLimit m longestText (textAt m (place (bytes "PID") 1 3 1 1 1))
     unfolding some same profile01 rows
-    patient-fits = accepted-fits profile01 m ok (bytes "PID") 1 (omega arith) there 3 1 1 199 refl 1
+    patient-fits = accepted-fits profile01 m ok (bytes "PID") 1 (omega arith) there 3 1 1 longestText refl 1
 
     pub patient-some : 1 ≤ length (textAt m (place (bytes "PID") 1 3 1 1 1))
     unfolding some every same profile01 rows
@@ -41,21 +43,21 @@ module _ (m : Text) (good : framed m ≡ true) (ok : verdict profile01 m ≡ acc
 
   -- the placer's and the filler's number and the service of a group, OBR-2 to OBR-4
   module _ (g : ℕ) (low : 1 ≤ g) (there : fewer m (bytes "OBR") g ≡ false) where
-    pub placer-fits : Fits m 199 (textAt m (place (bytes "OBR") g 2 1 1 1))
+    pub placer-fits : KeepsLimit m longestText (textAt m (place (bytes "OBR") g 2 1 1 1))
     unfolding some same profile01 rows
-    placer-fits = accepted-fits profile01 m ok (bytes "OBR") g low there 2 1 1 199 refl 1
+    placer-fits = accepted-fits profile01 m ok (bytes "OBR") g low there 2 1 1 longestText refl 1
 
-    pub filler-fits : Fits m 199 (textAt m (place (bytes "OBR") g 3 1 1 1))
+    pub filler-fits : KeepsLimit m longestText (textAt m (place (bytes "OBR") g 3 1 1 1))
     unfolding some same profile01 rows
-    filler-fits = accepted-fits profile01 m ok (bytes "OBR") g low there 3 1 1 199 refl 1
+    filler-fits = accepted-fits profile01 m ok (bytes "OBR") g low there 3 1 1 longestText refl 1
 
     pub filler-some : 1 ≤ length (textAt m (place (bytes "OBR") g 3 1 1 1))
     unfolding some every same profile01 rows
     filler-some = accepted-starred profile01 m ok (bytes "OBR") g low there 3 1 1 refl refl
 
-    pub service-fits : Fits m 199 (textAt m (place (bytes "OBR") g 4 1 1 1))
+    pub service-fits : KeepsLimit m longestText (textAt m (place (bytes "OBR") g 4 1 1 1))
     unfolding some same profile01 rows
-    service-fits = accepted-fits profile01 m ok (bytes "OBR") g low there 4 1 1 199 refl 1
+    service-fits = accepted-fits profile01 m ok (bytes "OBR") g low there 4 1 1 longestText refl 1
 
     pub service-some : 1 ≤ length (textAt m (place (bytes "OBR") g 4 1 1 1))
     unfolding some every same profile01 rows

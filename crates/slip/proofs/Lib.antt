@@ -1,3 +1,4 @@
+pub use Rattle.slot.proofs.SlotRoom
 pub mod Fitting
 pub mod Count
 pub mod Leaves

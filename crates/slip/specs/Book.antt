@@ -1,5 +1,5 @@
 -- Filing a group's slip in a slot of the book: 1 to 8, 15 to 17, or the slip filed.
-use Prim.Native.Nat.{ℕ, _*_, _+_}
+use Prim.Native.Nat.{ℕ, _+_}
 use mathlib.Core.Bool.{Bool, true, false, not, _||_}
 use mathlib.Core.List.{List, [], _∷_, _++_}
 use lib.ListN.{length, take, drop}
@@ -11,7 +11,7 @@ use Rattle.frame.specs.Segments.{segments, ofName}
 use Rattle.frame.specs.Frame.{frameTests}
 use Rattle.profile.specs.Table.{Table}
 use Rattle.reader.specs.Fault.{Verdict, accepted, fault, verdict}
-use Rattle.slot.specs.Slot.{slotSize, noSlot}
+use Rattle.slot.specs.Slot.{slotSize, slotStart, noSlot}
 use Rattle.slip.specs.Slip.{slipText}
 
 abbrev pub isAccepted : Verdict → Bool
@@ -37,4 +37,4 @@ file T m g k book = first (fileTests T m g k book) (slipText m g)
 -- THE BOOK afterwards: its slot is the slip and every other byte is as it was; a refusal writes nothing
 abbrev pub bookAfter : Answer Text → ℕ → Text → Text
 bookAfter (refused r) k book = book
-bookAfter (given slip) k book = take (slotSize * k) book ++ slip ++ drop (slotSize * k + slotSize) book
+bookAfter (given slip) k book = take (slotStart k) book ++ slip ++ drop (slotStart k + slotSize) book

@@ -17,8 +17,10 @@ use reader::judge;
 use reader::observations;
 use reader::occurrence;
 use reader::text_in;
+use slot::SLOT_SIZE;
 use slot::fill;
 use slot::no_slot;
+use slot::slot_start;
 use text::Refusal;
 use text::marks_of;
 use text::put;
@@ -59,9 +61,10 @@ fn file_accepted(m: &[u8], group: u64, slot: usize, book: &mut [u8]) -> Filed
             if no_slot(book, slot) {
                 return Filed::Refused(Refusal::NoSlot);
             }
-            let mut slip = [0u8; 1024];
+            let mut slip = [0u8; SLOT_SIZE];
             fill_group(m, start, end, &mut slip);
-            put(book, slot * 1024, &slip);
+            let at = slot_start(book, slot);
+            put(book, at, &slip);
             Filed::Slip
         }
     }

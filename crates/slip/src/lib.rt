@@ -2,7 +2,9 @@
 mod filing;
 
 pub use filing::file;
+pub use slot::SLOT_SIZE;
 pub use slot::no_slot;
+pub use slot::slot_start;
 use text::Refusal;
 
 // A slip filed, or why not.

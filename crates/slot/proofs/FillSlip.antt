@@ -1,20 +1,21 @@
 -- A slip's fields, written one behind another into a slot of zeros.
 use mathlib.Core.Path.{_≡_, refl, ap, subst, _∙_}
-use Prim.Native.Nat.{ℕ, zero, suc, _+_, _*_, _-_, _/_, _%_, _≤_, _<_}
-use native.Mathlib.Nat.{sub-zero, zero-sub, suc-sub-suc}
+use Prim.Native.Nat.{ℕ, suc, _+_, _*_, _-_, _/_, _%_, _≤_, _<_}
 use native.Mathlib.Omega.{arith}
 use mathlib.Core.Bool.{Bool, true, false}
 use mathlib.Core.List.{[], _∷_, _++_, flatMap, append-assoc, append-nil}
-use lib.ListN.{length, drop, set, replicate, length-replicate}
+use lib.ListN.{length, set, replicate, length-replicate}
 use Rattle.text.specs.Bytes.{Text, pick, empty}
 use Rattle.escape.specs.Escape.{resolved}
 use Rattle.text.specs.Puts.{Puts}
 use Rattle.text.specs.declared.marks.Marks.{Marks}
 use Rattle.text.proofs.Tests.{empty-none, empty-some}
+use Rattle.text.proofs.Lists.{drop-replicate}
 use Rattle.text.proofs.Puts.{puts-length, puts-none, puts-one, puts-both, puts-front}
 use Rattle.escape.proofs.Escapes.{resolved-length}
+use Rattle.tags.specs.Fields.{countTag, longestText, headSize, countSize, longestField}
 use Rattle.slot.specs.Slot.{tagged, twoBytes, tagBytes, slotSize, slipOf}
-use Rattle.slot.specs.Inner.{Fits, valuesOf}
+use Rattle.slot.specs.Inner.{Takes, valuesOf}
 
 -- one byte behind a text
 puts-more : {before : Text} {at : ℕ} {t mid : Text} {k : ℕ} (j x : ℕ) → k ≡ j → j < length before → Puts before at t mid k
@@ -33,11 +34,11 @@ puts-heading slip at k n h =
     rw b at (puts-more (at + 2) n a (omega arith) two)
 
 -- the bytes of a field, by the length of its value
-field-step : (k n : ℕ) (v : Text) (b : Bool) → length v ≡ n → length (pick b [] (k ∷ (twoBytes n ++ v))) ≤ 3 + n
+field-step : (k n : ℕ) (v : Text) (b : Bool) → length v ≡ n → length (pick b [] (k ∷ (twoBytes n ++ v))) ≤ headSize + n
 field-step k n v true e = omega arith
 field-step k n v false e = omega arith
 
-field-length : (k : ℕ) (v : Text) → length (tagBytes (tagged k v)) ≤ 3 + length v
+field-length : (k : ℕ) (v : Text) → length (tagBytes (tagged k v)) ≤ headSize + length v
 field-length k v = field-step k (length v) v (empty v) refl
 
 module _ (k : ℕ) (v : Text) where
@@ -47,16 +48,16 @@ module _ (k : ℕ) (v : Text) where
   field-some : (length v ≡ 0 → ⊥) → tagBytes (tagged k v) ≡ k ∷ (twoBytes (length v) ++ v)
   field-some n = rw (empty-some v n)
 
-small-high : (n : ℕ) → n ≤ 199 → n / 256 % 256 ≡ 0
+small-high : (n : ℕ) → n ≤ longestText → n / 256 % 256 ≡ 0
 small-high n h = omega arith
 
-small-low : (n : ℕ) → n ≤ 199 → n % 256 ≡ n
+small-low : (n : ℕ) → n ≤ longestText → n % 256 ≡ n
 small-low n h = omega arith
 
 -- a text's field: left out, or its tag, its length and its bytes
-module _ (q : Marks) (t : Text) (f : Fits q t) (n : ℕ) (e : n ≡ length (resolved q t)) where
-  pub text-small : n ≤ 199
-  text-small = omega (arith, resolved-length q t)
+module _ (q : Marks) (t : Text) (f : Takes q t) (n : ℕ) (e : n ≡ length (resolved q t)) where
+  pub text-small : n ≤ longestText
+  text-small = omega (arith, resolved-length q t, f .short)
 
   module _ (slip : Text) (at k : ℕ) (room : at + length (tagBytes (tagged k (resolved q t))) ≤ length slip) where
     pub puts-empty : n ≡ 0 → Puts slip at (tagBytes (tagged k (resolved q t))) slip at
@@ -76,25 +77,19 @@ module _ (q : Marks) (t : Text) (f : Fits q t) (n : ℕ) (e : n ≡ length (reso
           rw (told, ← e, small-high n text-small, small-low n text-small) (puts-both (puts-heading slip at k n (omega arith)) p)
 
 -- the count's field
-pub puts-count : (slip : Text) (at n : ℕ) → at + 5 ≤ length slip
-    → Puts slip at (tagBytes (tagged 6 (twoBytes n)))
-    (set (set (set (set (set slip at 6) (at + 1) 0) (at + 2) 2) (at + 3) (n / 256 % 256)) (at + 4) (n % 256)) (at + 5)
+pub puts-count : (slip : Text) (at n : ℕ) → at + countSize ≤ length slip
+    → Puts slip at (tagBytes (tagged countTag (twoBytes n)))
+    (set (set (set (set (set slip at countTag) (at + 1) 0) (at + 2) 2) (at + 3) (n / 256 % 256)) (at + 4) (n % 256)) (at + countSize)
 puts-count slip at n h =
     let c : at + 3 + 1 ≡ at + 4 = omega arith in
-    let d : at + 4 + 1 ≡ at + 5 = omega arith in
-    let four = puts-more (at + 3) (n / 256 % 256) refl (omega arith) (puts-heading slip at 6 2 (omega arith)) in
+    let d : at + 4 + 1 ≡ at + countSize = omega arith in
+    let four = puts-more (at + 3) (n / 256 % 256) refl (omega arith) (puts-heading slip at countTag 2 (omega arith)) in
     rw d at (puts-more (at + 4) (n % 256) c (omega arith) four)
-
--- the text of a slot's front, and zeros behind it
-drop-zeros : (n i : ℕ) → drop {A = ℕ} i (replicate n 0) ≡ replicate (n - i) 0
-drop-zeros n zero = rw (sub-zero n)
-drop-zeros zero (suc i) = rw (zero-sub (suc i))
-drop-zeros (suc n) (suc i) = rw (suc-sub-suc n i) (drop-zeros n i)
 
 -- so many fields of texts stand at the slot's front
 pub record Begun (n : ℕ) (t slip : Text) (at : ℕ) : Type 0 where
   pub puts : Puts (replicate slotSize 0) 0 t slip at
-  pub short : at ≤ 202 * n
+  pub short : at ≤ longestField * n
 
 pub begun-none : (slip : Text) → slip ≡ replicate slotSize 0 → Begun 0 [] slip 0
 begun-none slip e =
@@ -104,15 +99,15 @@ begun-none slip e =
     }
 
 module _ {n : ℕ} {t slip : Text} {at : ℕ} (b : Begun n t slip at) where
-  slot-length : length slip ≡ 1024
+  slot-length : length slip ≡ slotSize
   slot-length = puts-length (b .puts) ∙ length-replicate {A = ℕ} slotSize 0
 
-  module _ (k : ℕ) (q : Marks) (u : Text) (f : Fits q u) where
+  module _ (k : ℕ) (q : Marks) (u : Text) (f : Takes q u) where
     abbrev bytes : Text
     bytes = tagBytes (tagged k (resolved q u))
 
-    short-field : length bytes ≤ 202
-    short-field = omega (arith, field-length k (resolved q u), resolved-length q u)
+    short-field : length bytes ≤ longestField
+    short-field = omega (arith, field-length k (resolved q u), resolved-length q u, f .short)
 
     pub begun-room : n ≤ 4 → at + length bytes ≤ length slip
     begun-room h = omega (arith, slot-length, short-field, b .short)
@@ -120,11 +115,11 @@ module _ {n : ℕ} {t slip : Text} {at : ℕ} (b : Begun n t slip at) where
     pub begun-more : {after : Text} {r : ℕ} → Puts slip at bytes after r → Begun (suc n) (t ++ bytes) after r
     begun-more p = record { puts = puts-both (b .puts) p; short = omega (arith, short-field, b .short, p .ends) }
 
-  pub count-room : n ≤ 5 → at + 5 ≤ length slip
+  pub count-room : n ≤ 5 → at + countSize ≤ length slip
   count-room h = omega (arith, slot-length, b .short)
 
 zeros-behind : (n : ℕ) {t after : Text} {r : ℕ} → Puts (replicate n 0) 0 t after r → after ≡ t ++ replicate (n - length t) 0
-zeros-behind n {t} p = puts-front p ∙ rw (drop-zeros n (length t))
+zeros-behind n {t} p = puts-front p ∙ rw (drop-replicate {A = ℕ} 0 (length t) n)
 
 joined : (a b c d e f : Text) → ((((([] ++ a) ++ b) ++ c) ++ d) ++ e) ++ f ≡ a ++ (b ++ (c ++ (d ++ (e ++ (f ++ [])))))
 joined a b c d e f = simp (append-assoc, append-nil)
@@ -137,7 +132,7 @@ pub slip-filled : (q : Marks) (control patient placer filler service : Text) (co
     ++ tagBytes (tagged 4 (resolved q filler)))
     ++ tagBytes (tagged 5 (resolved q service)))
     slip at
-    → Puts slip at (tagBytes (tagged 6 (twoBytes count))) after r
+    → Puts slip at (tagBytes (tagged countTag (twoBytes count))) after r
     → after ≡ slipOf (valuesOf q control patient placer filler service count)
 unfolding slipOf flatMap
 slip-filled q control patient placer filler service count slip at after r b p =
@@ -146,5 +141,5 @@ slip-filled q control patient placer filler service count slip at after r b p =
     let f3 = tagBytes (tagged 3 (resolved q placer)) in
     let f4 = tagBytes (tagged 4 (resolved q filler)) in
     let f5 = tagBytes (tagged 5 (resolved q service)) in
-    let e = joined f1 f2 f3 f4 f5 (tagBytes (tagged 6 (twoBytes count))) in
+    let e = joined f1 f2 f3 f4 f5 (tagBytes (tagged countTag (twoBytes count))) in
     zeros-behind slotSize (puts-both (b .puts) p) ∙ ap (λ (t : Text). t ++ replicate (slotSize - length t) 0) e

@@ -1,1 +1,2 @@
 pub mod FillSlip
+pub mod SlotRoom

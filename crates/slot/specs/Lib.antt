@@ -1,2 +1,3 @@
+pub use Rattle.tags.specs.Fields
 pub mod Slot
 pub mod Inner

@@ -1,5 +1,5 @@
 -- The fields of a slip, and the slot that they fill: their exact bytes. Which slots a book has.
-use Prim.Native.Nat.{ℕ, _/_, _%_, _-_}
+use Prim.Native.Nat.{ℕ, _*_, _/_, _%_, _-_}
 use mathlib.Core.Bool.{Bool}
 use mathlib.Core.List.{List, [], _∷_, _++_, flatMap}
 use lib.ListN.{length, replicate}
@@ -24,6 +24,10 @@ tagBytes f = pick (empty (f .value)) [] (f .tag ∷ (twoBytes (length (f .value)
 
 abbrev pub slotSize : ℕ
 slotSize = 1024
+
+-- where slot k of a book begins
+abbrev pub slotStart : ℕ → ℕ
+slotStart k = slotSize * k
 
 -- slot k, from 0, isn't below the book's length divided by 1,024, rounded down
 abbrev pub noSlot : Text → ℕ → Bool

@@ -1,18 +1,25 @@
-// The slot: filling one that is all zeros with a slip, and whether a book has one.
+// The slot: filling one that is all zeros with a slip; whether a book has one, and where it begins.
 ghost use mathlib.Core.Path.{_≡_};
+ghost use mathlib.Core.Bool.{false};
 ghost use Prim.Native.Nat.{_+_, _≤_};
-ghost use lib.ListN.{length, replicate};
+ghost use lib.ListN.{length};
 ghost use Rattle.escape.specs.Escape.{resolved};
+ghost use Rattle.tags.specs.Fields.{countSize, countTag};
 ghost use Rattle.text.specs.Puts.{Puts};
-ghost use Rattle.slot.specs.Slot.{twoBytes, tagged, tagBytes, slotSize, slipOf, noSlot};
-ghost use Rattle.slot.specs.Inner.{Fits, valuesOf};
+ghost use Rattle.slot.specs.Slot.{twoBytes, tagged, tagBytes, slotSize, slotStart, slipOf, noSlot};
+ghost use Rattle.slot.specs.Inner.{Takes, Fillable, valuesOf};
 use escape::put_resolved;
 use escape::resolved_len;
+use tags::COUNT_TAG;
+use tags::HEAD_SIZE;
 use text::Marks;
+
+// Bytes of a slot.
+pub const SLOT_SIZE: usize = 1024;
 
 // A field: its tag, its length and its resolved text; an Empty one is left out.
 fn put_text(slip: &mut [u8], at: usize, tag: u8, q: Marks, t: &[u8]) -> usize
-    requires { ⌜ Fits q (now t) × (at + length (tagBytes (tagged tag (resolved q (now t)))) ≤ length (now slip)) ⌝ }
+    requires { ⌜ Takes q (now t) × (at + length (tagBytes (tagged tag (resolved q (now t)))) ≤ length (now slip)) ⌝ }
     ensures { λ r. ⌜ Puts (now (slip .entry)) at (tagBytes (tagged tag (resolved q (now (t .entry))))) (now (slip .exit)) r ⌝ }
 {
     let n = resolved_len(q, t);
@@ -22,15 +29,15 @@ fn put_text(slip: &mut [u8], at: usize, tag: u8, q: Marks, t: &[u8]) -> usize
     slip[at] = tag;
     slip[at + 1] = 0;
     slip[at + 2] = n as u8;
-    put_resolved(slip, at + 3, q, t)
+    put_resolved(slip, at + HEAD_SIZE, q, t)
 }
 
 // The last field: the group's OBX count in two bytes.
 fn put_count(slip: &mut [u8], at: usize, n: u64)
-    requires { ⌜ at + 5 ≤ length (now slip) ⌝ }
-    ensures { λ _. ⌜ Puts (now (slip .entry)) at (tagBytes (tagged 6 (twoBytes n))) (now (slip .exit)) (at + 5) ⌝ }
+    requires { ⌜ at + countSize ≤ length (now slip) ⌝ }
+    ensures { λ _. ⌜ Puts (now (slip .entry)) at (tagBytes (tagged countTag (twoBytes n))) (now (slip .exit)) (at + countSize) ⌝ }
 {
-    slip[at] = 6;
+    slip[at] = COUNT_TAG;
     slip[at + 1] = 0;
     slip[at + 2] = 2;
     slip[at + 3] = (n / 256 % 256) as u8;
@@ -48,8 +55,7 @@ pub fn fill(
     service: &[u8],
     count: u64,
 )
-    requires { ⌜ now slip ≡ replicate slotSize 0 ⌝ }
-    requires { ⌜ Fits q (now control) × (Fits q (now patient) × (Fits q (now placer) × (Fits q (now filler) × Fits q (now service)))) ⌝ }
+    requires { ⌜ Fillable q (now slip) (now control) (now patient) (now placer) (now filler) (now service) ⌝ }
     ensures { λ _. ⌜ now (slip .exit) ≡ slipOf (valuesOf q (now (control .entry)) (now (patient .entry)) (now (placer .entry)) (now (filler .entry)) (now (service .entry)) count) ⌝ }
 {
     let a = put_text(slip, 0, 1, q, control);
@@ -64,5 +70,13 @@ pub fn fill(
 pub fn no_slot(book: &[u8], slot: usize) -> bool
     ensures { λ r. ⌜ r ≡ noSlot (now (book .entry)) slot ⌝ }
 {
-    book.len() / 1024 <= slot
+    book.len() / SLOT_SIZE <= slot
+}
+
+// Where a slot begins that the book has, and so ends within it.
+pub fn slot_start(book: &[u8], slot: usize) -> usize
+    requires { ⌜ noSlot (now book) slot ≡ false ⌝ }
+    ensures { λ r. ⌜ (r ≡ slotStart slot) × (r + slotSize ≤ length (now (book .entry))) ⌝ }
+{
+    SLOT_SIZE * slot
 }

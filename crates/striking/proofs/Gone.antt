@@ -1,7 +1,7 @@
 -- What the table does not list is struck: the leaves of a listed segment, and whole segments.
 use mathlib.Core.Path.{_≡_, refl, sym, ap, _∙_}
 use mathlib.Core.Logic.{_⊎_, inl, inr}
-use Prim.Native.Nat.{ℕ, zero, suc}
+use Prim.Native.Nat.{ℕ}
 use native.Mathlib.Omega.{arith}
 use mathlib.Core.Bool.{Bool, true, false, _&&_}
 use mathlib.Core.List.{List, [], _∷_, map}
@@ -11,42 +11,24 @@ use Rattle.text.specs.Bytes.{Text, pick, bytes, keep, same}
 use Rattle.text.specs.declared.marks.Marks.{Marks}
 use Rattle.text.proofs.Tests.{not-true, same-true}
 use Rattle.parts.specs.Split.{split, piece}
-use Rattle.parts.specs.Descent.{Step, part, inField}
+use Rattle.parts.specs.Descent.{part, inField}
+use Rattle.parts.proofs.Descent.{piece-nil, part-nil}
+use Rattle.parts.proofs.Members.{no-piece}
 use Rattle.frame.specs.Segments.{name, named, ofName, field, unsplit}
 use Rattle.profile.specs.Table.{Table, Leaf, isListed}
 use Rattle.reader.specs.Place.{leafAt, leafOf}
-use Rattle.striking.specs.Strike.{rewritten, onlyIf, hasComponent, hasLeaf, strikeSubcomponent, strikeComponent, strikeRepetition, hasField, leavesAt, strikeSegment}
+use Rattle.striking.specs.Strike.{rewritten, onlyIf, hasComponent, hasLeaf, strikeSubcomponent, strikeComponent, strikeRepetition, hasField, fieldLeaves, strikeSegment}
 use Rattle.striking.proofs.Shrink.{piece-rewritten}
 use Rattle.striking.proofs.Kept.{subcomponent-shrinks, component-shrinks, strikeIn, in-shrinks, name-struck, field-struck, unsplit-struck}
 use Rattle.striking.proofs.Message.{L, strikes}
 
--- 1. Of nothing every part is nothing
-piece-none : (n : ℕ) → piece n [] ≡ []
-piece-none zero = refl
-piece-none (suc i) = refl
-
-pub split-none : (sep n : ℕ) → piece n (split sep []) ≡ []
-unfolding split
-split-none sep zero = refl
-split-none sep (suc zero) = refl
-split-none sep (suc (suc i)) = refl
-
-part-none : (ss : List Step) → part false ss [] ≡ []
-unfolding part
-part-none [] = refl
-part-none (s ∷ ss) = rw (split-none (s .mark) (s .number)) (part-none ss)
-
-pub leaf-none : (q : Marks) (f r c b : ℕ) → leafAt q [] f r c b ≡ []
-unfolding leafAt field same
-leaf-none q f r c b = rw (split-none (q .field) f) (part-none (inField q r c b))
-
--- 2. Of a repetition, the leaves that are not listed go
+-- 1. Of a repetition, the leaves that are not listed go
 module _ (q : Marks) (ls : List Leaf) where
   subcomponent-gone : (k : Bool) (t : Text) (c b : ℕ) → hasLeaf ls c b ≡ false
       → piece b (split (q .subcomponent) (onlyIf k (rewritten (q .subcomponent) (strikeSubcomponent ls c) t))) ≡ []
   subcomponent-gone true t c b h =
       rw (piece-rewritten (q .subcomponent) (strikeSubcomponent ls c) (subcomponent-shrinks q ls c) t b, h)
-  subcomponent-gone false t c b h = split-none (q .subcomponent) b
+  subcomponent-gone false t c b h = piece-nil (q .subcomponent) b
 
   leaf-gone : (t : Text) (c b : ℕ) → hasLeaf ls c b ≡ false → leafOf q false (strikeRepetition q ls t) c b ≡ []
   unfolding part
@@ -54,21 +36,21 @@ module _ (q : Marks) (ls : List Leaf) where
       rw (piece-rewritten (q .component) (strikeComponent q ls) (component-shrinks q ls) t c)
       (subcomponent-gone (hasComponent ls c) (piece c (split (q .component) t)) c b h)
 
--- 3. Of a segment, the leaves that are not listed go, but for MSH-1 and MSH-2
-module _ (T : Table) (q : Marks) (s : Text) (f r c b : ℕ) (h : hasLeaf (leavesAt T q s f) c b ≡ false) where
+-- 2. Of a segment, the leaves that are not listed go, but for MSH-1 and MSH-2
+module _ (T : Table) (q : Marks) (s : Text) (f r c b : ℕ) (h : hasLeaf (fieldLeaves T q s f) c b ≡ false) where
   field-gone : (k : Bool) (t : Text) → part false (inField q r c b) (onlyIf k (rewritten (q .repetition) (strikeIn T q s f) t)) ≡ []
   field-gone true t =
       unfold part in
       rw (piece-rewritten (q .repetition) (strikeIn T q s f) (in-shrinks T q s f) t r)
-      (leaf-gone q (leavesAt T q s f) (piece r (split (q .repetition) t)) c b h)
-  field-gone false t = part-none (inField q r c b)
+      (leaf-gone q (fieldLeaves T q s f) (piece r (split (q .repetition) t)) c b h)
+  field-gone false t = part-nil (inField q r c b)
 
   pub leaf-struck-out : unsplit s f ≡ false → leafAt q (strikeSegment T q s) f r c b ≡ []
   unfolding leafAt
   leaf-struck-out e =
       rw (unsplit-struck T q s f, field-struck T q s f, e) (field-gone (hasField T (name s) f) (field q s f))
 
--- 4. A segment that the table does not name goes
+-- 3. A segment that the table does not name goes
 module _ (T : Table) (q : Marks) (n : Text) (unlisted : isListed T n ≡ false) where
   not-named : (x : Text) (b : Bool) → named n x ≡ b → L T q x ≡ true → b ≡ false
   not-named x true e l = not-true (sym unlisted ∙ rw (← same-true (name x) n e) l)
@@ -86,9 +68,9 @@ module _ (T : Table) (q : Marks) (n : Text) (unlisted : isListed T n ≡ false) 
   none-named (x ∷ ss) = none-step x (keep (L T q) ss) (L T q x) refl (none-named ss)
 
   pub none-left : (ss : List Text) (o : ℕ) → piece o (ofName n (strikes T q ss)) ≡ []
-  none-left ss o = ap (piece o) (none-named ss) ∙ piece-none o
+  none-left ss o = ap (piece o) (none-named ss) ∙ no-piece o
 
--- 5. MSH-1 and MSH-2 are the header's alone
+-- 4. MSH-1 and MSH-2 are the header's alone
 up-to-second : (f : ℕ) (b : Bool) → leb f 2 ≡ b → b ≡ ltb f 3
 up-to-second f true e = sym (lt-ltb f 3 (omega (arith, leb-true f 2 e)))
 up-to-second f false e = sym (le-ltb f 3 (omega (arith, leb-false f 2 e)))

@@ -16,7 +16,7 @@ use Rattle.parts.specs.Descent.{part, inField}
 use Rattle.frame.specs.Segments.{name, isHeader, headerField, field, unsplit}
 use Rattle.profile.specs.Table.{Table, Leaf, Row}
 use Rattle.reader.specs.Place.{leafAt, leafOf}
-use Rattle.striking.specs.Strike.{rewritten, hasComponent, hasLeaf, strikeSubcomponent, strikeComponent, strikeRepetition, rowsAt, hasField, leavesAt, strikeField, afterNinth, strikeAfterNinth, strikeHeader, strikeOther, strikeSegment}
+use Rattle.striking.specs.Strike.{rewritten, hasComponent, hasLeaf, strikeSubcomponent, strikeComponent, strikeRepetition, rowsAt, hasField, fieldLeaves, strikeField, afterNinth, strikeAfterNinth, strikeHeader, strikeOther, strikeSegment}
 use Rattle.striking.proofs.Shrink.{Sub, sub-self, sub-only, sub-behind, take-front, drop-front, Shrinks, rewritten-sub, piece-rewritten, rewritten-empty}
 
 -- 1. Of a repetition, the listed leaves stay
@@ -59,34 +59,34 @@ unless true g t = t
 unless false g t = g t
 
 module _ (T : Table) (q : Marks) (s : Text) where
-  has-field : (f c b : ℕ) → hasLeaf (leavesAt T q s f) c b ≡ true → hasField T (name s) f ≡ true
-  unfolding leavesAt
+  has-field : (f c b : ℕ) → hasLeaf (fieldLeaves T q s f) c b ≡ true → hasField T (name s) f ≡ true
+  unfolding fieldLeaves
   has-field f c b h =
       some-row _ _ (rowsAt T (name s) f) h
 
-  pub component-field : (f c : ℕ) → hasComponent (leavesAt T q s f) c ≡ true → hasField T (name s) f ≡ true
-  unfolding leavesAt
+  pub component-field : (f c : ℕ) → hasComponent (fieldLeaves T q s f) c ≡ true → hasField T (name s) f ≡ true
+  unfolding fieldLeaves
   component-field f c h =
       some-row _ _ (rowsAt T (name s) f) h
 
   -- 2. Of a field, the listed leaves of each repetition stay
   abbrev pub strikeIn : ℕ → ℕ → Text → Text
-  strikeIn f r t = strikeRepetition q (leavesAt T q s f) t
+  strikeIn f r t = strikeRepetition q (fieldLeaves T q s f) t
 
   pub in-shrinks : (f : ℕ) → Shrinks (strikeIn f)
-  in-shrinks f r t = repetition-sub q (leavesAt T q s f) t
+  in-shrinks f r t = repetition-sub q (fieldLeaves T q s f) t
 
   pub field-shrinks : Shrinks (strikeField T q s)
   field-shrinks f t =
       sub-only (hasField T (name s) f) (rewritten-sub (q .repetition) (strikeIn f) (in-shrinks f) t)
 
-  part-kept : (w : Bool) (t : Text) (f r c b : ℕ) → hasLeaf (leavesAt T q s f) c b ≡ true
+  part-kept : (w : Bool) (t : Text) (f r c b : ℕ) → hasLeaf (fieldLeaves T q s f) c b ≡ true
       → part w (inField q r c b) (unless w (strikeField T q s f) t) ≡ part w (inField q r c b) t
   part-kept true t f r c b h = refl
   part-kept false t f r c b h =
       unfold part in
       rw (has-field f c b h, piece-rewritten (q .repetition) (strikeIn f) (in-shrinks f) t r)
-      (leaf-kept q (leavesAt T q s f) (piece r (split (q .repetition) t)) c b h)
+      (leaf-kept q (fieldLeaves T q s f) (piece r (split (q .repetition) t)) c b h)
 
   -- 3. The segment's fields, each struck
   pub after-shrinks : Shrinks (strikeAfterNinth T q s)
@@ -141,7 +141,7 @@ module _ (T : Table) (q : Marks) (s : Text) where
   unsplit-struck f = rw name-struck
 
   -- THE LISTED LEAVES STAY
-  pub leaf-struck : (f r c b : ℕ) → hasLeaf (leavesAt T q s f) c b ≡ true → leafAt q (strikeSegment T q s) f r c b ≡ leafAt q s f r c b
+  pub leaf-struck : (f r c b : ℕ) → hasLeaf (fieldLeaves T q s f) c b ≡ true → leafAt q (strikeSegment T q s) f r c b ≡ leafAt q s f r c b
   unfolding leafAt
   leaf-struck f r c b h =
       rw (field-struck f, unsplit-struck f) (part-kept (unsplit s f) (field q s f) f r c b h)

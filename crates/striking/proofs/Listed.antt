@@ -14,7 +14,7 @@ use Rattle.parts.specs.Split.{piece}
 use Rattle.frame.specs.Segments.{segments, name, named, ofName, occurrence}
 use Rattle.profile.specs.Table.{Table, isListed}
 use Rattle.reader.specs.Place.{Place, textAt}
-use Rattle.striking.specs.Strike.{isListedPlace, hasLeaf, leavesAt, strikeSegment, strike}
+use Rattle.striking.specs.Strike.{isListedPlace, hasLeaf, fieldLeaves, strikeSegment, strike}
 use Rattle.striking.proofs.Shrink.{sub-empty}
 use Rattle.striking.proofs.Kept.{name-struck, leaf-struck, segment-sub}
 use Rattle.striking.proofs.Message.{L, strikes, segments-struck}
@@ -90,7 +90,7 @@ module _ (T : Table) (m : Text) where
     unfolding textAt
     text-none e = rw (marks, occurrence-struck (p .name) (p .occurrence) l, e, none-struck)
 
-    pub text-same : hasLeaf (leavesAt T (marksOf m) (occurrence m (p .name) (p .occurrence)) (p .field)) (p .component) (p .subcomponent) ≡ true
+    pub text-same : hasLeaf (fieldLeaves T (marksOf m) (occurrence m (p .name) (p .occurrence)) (p .field)) (p .component) (p .subcomponent) ≡ true
         → textAt (strike T m) p ≡ textAt m p
     unfolding textAt
     text-same h =

@@ -19,7 +19,7 @@ use Rattle.frame.proofs.Frame.{Framed, framed-tests, tests-framed, closed-segme
 use Rattle.profile.specs.Table.{Table, isListed}
 use Rattle.reader.specs.View.{segmentSeen, view}
 use Rattle.striking.specs.Strike.{rewritten, strikeAfterNinth, strikeSegment, strike}
-use Rattle.striking.specs.Fit.{fit}
+use Rattle.profile.specs.Fit.{fit}
 use Rattle.striking.proofs.Shrink.{Sub, done, skip, hold, sub-none, sub-append, sub-free, sub-every, sub-length}
 use Rattle.striking.proofs.Kept.{front-struck, name-struck, segment-sub}
 use Rattle.striking.proofs.Seen.{segment-same}

@@ -2,7 +2,7 @@
 use mathlib.Core.Path.{_≡_, refl, sym, ap, _∙_}
 use Prim.Native.Nat.{ℕ, suc}
 use native.Mathlib.Omega.{arith}
-use mathlib.Core.Bool.{Bool, true, false, not, _&&_, _||_}
+use mathlib.Core.Bool.{Bool, true, false, _&&_}
 use mathlib.Core.List.{List, [], _∷_, flatMap}
 use lib.ListN.{length}
 use lib.Dec.{eqb, leb, ltb}
@@ -10,7 +10,7 @@ use borrow.Author.Tests.{eq-eqb, leb-true, le-ltb}
 use Rattle.text.specs.Bytes.{Text, pick, empty, some, keep, same}
 use Rattle.text.specs.declared.marks.Marks.{Marks}
 use Rattle.text.proofs.Tests.{not-true, both, same-true}
-use Rattle.text.proofs.Lists.{All, and-both, or-left, or-right, all-map, all-both, all-keep, all-kept, every-all, some-mono, some-flatMap, map-same, flatMap-same, all-flatMap}
+use Rattle.text.proofs.Lists.{All, and-both, or-left, all-map, all-both, all-keep, all-kept, every-all, some-mono, some-flatMap, map-same, flatMap-same, all-flatMap, Member, all-members, some-kept}
 use Rattle.parts.specs.Split.{split}
 use Rattle.parts.specs.Descent.{cut}
 use Rattle.frame.specs.Segments.{name, field, unsplit}
@@ -19,40 +19,12 @@ use Rattle.profile.proofs.Gathered.{RowOk, RuleOk, gathered-all}
 use Rattle.reader.proofs.Filled.{none-filled}
 use Rattle.reader.specs.Place.{leafOf, repetitions}
 use Rattle.reader.specs.View.{Field, entriesOf, filledFrom, namedIn, fieldSeen, segmentSeen}
-use Rattle.striking.specs.Strike.{change, hasLeaf, rowsAt, hasField, leavesAt, strikeField, strikeSegment}
-use Rattle.striking.specs.Fit.{listsComponent, hasRow, namerListed, mayRepeat, rowFit, fit}
+use Rattle.striking.specs.Strike.{change, hasLeaf, rowsAt, hasField, fieldLeaves, strikeField, strikeSegment}
+use Rattle.profile.specs.Fit.{listsComponent, hasRow, namerListed, mayRepeat, rowFit, fit}
 use Rattle.striking.proofs.Shrink.{split-rewritten, count-rewritten, rewritten-empty}
 use Rattle.striking.proofs.Kept.{leaf-kept, unless, strikeIn, in-shrinks, name-struck, field-struck, unsplit-struck, leaf-struck}
 
--- 1. Members and tests
-module _ {A : Type 0} where
-  -- a test that a member passes, some member passes
-  abbrev Told : List A → A → Type 0
-  Told l x = (h : A → Bool) → h x ≡ true → some h l ≡ true
-
-  told-more : (y : A) (l : List A) (x : A) → Told l x → Told (y ∷ l) x
-  unfolding some
-  told-more y l x t h e = or-right (h y) (some h l) (t h e)
-
-  told-here : (x : A) (l : List A) → Told (x ∷ l) x
-  unfolding some
-  told-here x l h e = or-left (h x) (some h l) e
-
-  all-told : (l : List A) → All (Told l) l
-  all-told [] = tt
-  all-told (x ∷ l) = (told-here x l, all-map (Told l) (Told (x ∷ l)) (λ y. told-more x l y) l (all-told l))
-
-  some-step : (k : A → Bool) (x : A) (l : List A) (b r : Bool) → k x ≡ b → (r ≡ true → not (empty (keep k l)) ≡ true)
-      → b || r ≡ true → not (empty (pick b (x ∷ keep k l) (keep k l))) ≡ true
-  some-step k x l true r e ih h = refl
-  some-step k x l false r e ih h = ih h
-
-  some-kept : (k : A → Bool) (l : List A) → some k l ≡ true → not (empty (keep k l)) ≡ true
-  unfolding some keep
-  some-kept k [] e = e
-  some-kept k (x ∷ l) e = some-step k x l (k x) (some k l) refl (some-kept k l) e
-
--- 2. A leaf with a row is listed
+-- 1. A leaf with a row is listed
 lists-leaf : (T : Table) (names : ℕ → Text) (c : ℕ) (x : Listed) → listsComponent c x ≡ true
     → some (λ (l : Leaf). eqb (l .component) c && eqb (l .subcomponent) 1) (leavesIn T names x) ≡ true
 unfolding some
@@ -72,11 +44,11 @@ row-listed T names n f c h =
     and-both (k r) (some g (leavesIn T names (r .lists))) (w .0) (lists-leaf T names c (r .lists) (w .1)))
     (T .rows) h)
 
-pub has-row : (T : Table) (q : Marks) (s : Text) (f c : ℕ) → hasRow T (name s) f c ≡ true → hasLeaf (leavesAt T q s f) c 1 ≡ true
-unfolding leavesAt
+pub has-row : (T : Table) (q : Marks) (s : Text) (f c : ℕ) → hasRow T (name s) f c ≡ true → hasLeaf (fieldLeaves T q s f) c 1 ≡ true
+unfolding fieldLeaves
 has-row T q s f c h = row-listed T _ (name s) f c h
 
--- 3. The rows of a segment, before and after
+-- 2. The rows of a segment, before and after
 module _ (T : Table) (q : Marks) (s : Text) where
   abbrev before : ℕ → Text
   before f = namedIn q s f
@@ -88,7 +60,7 @@ module _ (T : Table) (q : Marks) (s : Text) where
   abbrev Lists : ℕ → Listed → Type 0
   Lists f x =
       (leavesIn T after x ≡ leavesIn T before x)
-      × All (λ (l : Leaf). hasLeaf (leavesAt T q s f) (l .component) (l .subcomponent) ≡ true) (leavesIn T before x)
+      × All (λ (l : Leaf). hasLeaf (fieldLeaves T q s f) (l .component) (l .subcomponent) ≡ true) (leavesIn T before x)
 
   abbrev Has : ℕ → Type 0
   Has f = hasField T (name s) f ≡ true
@@ -105,9 +77,9 @@ module _ (T : Table) (q : Marks) (s : Text) where
   own-row : (r : Row) → same (r .segment) (name s) ≡ true → same (r .segment) (name s) && eqb (r .field) (r .field) ≡ true
   own-row r e = and-both (same (r .segment) (name s)) (eqb (r .field) (r .field)) e (eq-eqb (r .field) (r .field) refl)
 
-  row-leaf : (r : Row) → same (r .segment) (name s) ≡ true → Told (T .rows) r → (l : Leaf) → Told (leavesIn T before (r .lists)) l
-      → hasLeaf (leavesAt T q s (r .field)) (l .component) (l .subcomponent) ≡ true
-  unfolding leavesAt rowsAt
+  row-leaf : (r : Row) → same (r .segment) (name s) ≡ true → Member (T .rows) r → (l : Leaf) → Member (leavesIn T before (r .lists)) l
+      → hasLeaf (fieldLeaves T q s (r .field)) (l .component) (l .subcomponent) ≡ true
+  unfolding fieldLeaves rowsAt
   row-leaf r e t l u =
       let k : Row → Bool = λ x. same (x .segment) (name s) && eqb (x .field) (r .field) in
       let g : Leaf → Bool = λ x. eqb (x .component) (l .component) && eqb (x .subcomponent) (l .subcomponent) in
@@ -118,7 +90,7 @@ module _ (T : Table) (q : Marks) (s : Text) where
       (and-both (eqb (l .component) (l .component)) (eqb (l .subcomponent) (l .subcomponent))
       (eq-eqb (l .component) (l .component) refl) (eq-eqb (l .subcomponent) (l .subcomponent) refl)))))
 
-  row-field : (r : Row) → same (r .segment) (name s) ≡ true → Told (T .rows) r → Has (r .field)
+  row-field : (r : Row) → same (r .segment) (name s) ≡ true → Member (T .rows) r → Has (r .field)
   unfolding rowsAt
   row-field r e t =
       some-kept (λ (x : Row). same (x .segment) (name s) && eqb (x .field) (r .field)) (T .rows)
@@ -127,15 +99,15 @@ module _ (T : Table) (q : Marks) (s : Text) where
   abbrev Fit : Row → Type 0
   Fit r = rowFit T r ≡ true
 
-  row-ok : (r : Row) → (Fit r × Told (T .rows) r) × (same (r .segment) (name s) ≡ true) → RowOk Lists Says r
+  row-ok : (r : Row) → (Fit r × Member (T .rows) r) × (same (r .segment) (name s) ≡ true) → RowOk Lists Says r
   row-ok r h =
       let w = both (mayRepeat r) (namerListed T (r .segment) (r .lists)) (h .0 .0) in
       let e = h .1 in (
         (
           same-leaves (r .lists) (rw (same-true (r .segment) (name s) e) at (w .1)),
-          all-map (Told (leavesIn T before (r .lists)))
-              (λ (l : Leaf). hasLeaf (leavesAt T q s (r .field)) (l .component) (l .subcomponent) ≡ true)
-              (row-leaf r e (h .0 .1)) (leavesIn T before (r .lists)) (all-told (leavesIn T before (r .lists))),
+          all-map (Member (leavesIn T before (r .lists)))
+              (λ (l : Leaf). hasLeaf (fieldLeaves T q s (r .field)) (l .component) (l .subcomponent) ≡ true)
+              (row-leaf r e (h .0 .1)) (leavesIn T before (r .lists)) (all-members (leavesIn T before (r .lists))),
         ),
         (row-field r e (h .0 .1), w .0),
       )
@@ -145,15 +117,15 @@ module _ (T : Table) (q : Marks) (s : Text) where
   rules-ok ok =
       let named : Row → Bool = λ r. same (r .segment) (name s) in
       gathered-all Lists Says (keep named (T .rows))
-      (all-map (λ r. (Fit r × Told (T .rows) r) × (named r ≡ true)) (RowOk Lists Says) row-ok (keep named (T .rows))
-      (all-both (λ r. Fit r × Told (T .rows) r) (λ r. named r ≡ true) (keep named (T .rows))
-      (all-keep (λ r. Fit r × Told (T .rows) r) named (T .rows)
-      (all-both Fit (Told (T .rows)) (T .rows)
+      (all-map (λ r. (Fit r × Member (T .rows) r) × (named r ≡ true)) (RowOk Lists Says) row-ok (keep named (T .rows))
+      (all-both (λ r. Fit r × Member (T .rows) r) (λ r. named r ≡ true) (keep named (T .rows))
+      (all-keep (λ r. Fit r × Member (T .rows) r) named (T .rows)
+      (all-both Fit (Member (T .rows)) (T .rows)
       (every-all (rowFit T) (T .rows) ok)
-      (all-told (T .rows))))
+      (all-members (T .rows))))
       (all-kept named (T .rows))))
 
--- 4. The repetitions of a field, before and after
+-- 3. The repetitions of a field, before and after
 module _ (q : Marks) where
   abbrev reps : Bool → Text → List Text
   reps w t = pick (empty t) [] (cut w (q .repetition) t)
@@ -190,15 +162,15 @@ module _ (T : Table) (q : Marks) (s : Text) (f : ℕ) (has : hasField T (name s)
   surplus-same false n [] l = rw struck-none
   surplus-same false n (b ∷ t) l = count-by n b t (struck (b ∷ t)) l (struck-count (b ∷ t))
 
-  module _ (ls : List Leaf) (all : All (λ (l : Leaf). hasLeaf (leavesAt T q s f) (l .component) (l .subcomponent) ≡ true) ls) where
+  module _ (ls : List Leaf) (all : All (λ (l : Leaf). hasLeaf (fieldLeaves T q s f) (l .component) (l .subcomponent) ≡ true) ls) where
     entries-same : (t : Text) → entriesOf q false ls (strikeIn T q s f 1 t) ≡ entriesOf q false ls t
     entries-same t =
         map-same
         (λ (l : Leaf). record { leaf = l; text = leafOf q false (strikeIn T q s f 1 t) (l .component) (l .subcomponent) })
         (λ (l : Leaf). record { leaf = l; text = leafOf q false t (l .component) (l .subcomponent) })
         ls
-        (all-map (λ (l : Leaf). hasLeaf (leavesAt T q s f) (l .component) (l .subcomponent) ≡ true) _
-        (λ l e. rw (leaf-kept q (leavesAt T q s f) t (l .component) (l .subcomponent) e)) ls all)
+        (all-map (λ (l : Leaf). hasLeaf (fieldLeaves T q s f) (l .component) (l .subcomponent) ≡ true) _
+        (λ l e. rw (leaf-kept q (fieldLeaves T q s f) t (l .component) (l .subcomponent) e)) ls all)
 
     filled-change : (k : ℕ) (ts : List Text)
         → filledFrom k (entriesOf q false ls) (change (strikeIn T q s f) ts) ≡ filledFrom k (entriesOf q false ls) ts
@@ -214,7 +186,7 @@ module _ (T : Table) (q : Marks) (s : Text) (f : ℕ) (has : hasField T (name s)
         ∙ filled-change 1 (split (q .repetition) t)
         ∙ sym (filled-all q ls 1 t)
 
--- 5. A field, a segment
+-- 4. A field, a segment
 module _ (T : Table) (q : Marks) (s : Text) where
   abbrev shown : Rule → List Leaf → Bool → Text → Field
   shown u ls w t =
@@ -225,7 +197,7 @@ module _ (T : Table) (q : Marks) (s : Text) where
       }
 
   shown-same : (u : Rule) (ls : List Leaf) (w : Bool) (t : Text) → hasField T (name s) (u .field) ≡ true → leb 1 (u .repetitions) ≡ true
-      → All (λ (l : Leaf). hasLeaf (leavesAt T q s (u .field)) (l .component) (l .subcomponent) ≡ true) ls
+      → All (λ (l : Leaf). hasLeaf (fieldLeaves T q s (u .field)) (l .component) (l .subcomponent) ≡ true) ls
       → shown u ls w (unless w (strikeField T q s (u .field)) t) ≡ shown u ls w t
   shown-same u ls w t has l all =
       λ i.
@@ -241,10 +213,10 @@ module _ (T : Table) (q : Marks) (s : Text) where
       (all-map (Lists T q s f) (λ x. leavesIn T (after T q s) x ≡ leavesIn T (before T q s) x) (λ x h. h .0) xs a)
 
   lists-listed : (f : ℕ) (xs : List Listed) → All (Lists T q s f) xs
-      → All (λ (l : Leaf). hasLeaf (leavesAt T q s f) (l .component) (l .subcomponent) ≡ true) (flatMap (leavesIn T (before T q s)) xs)
+      → All (λ (l : Leaf). hasLeaf (fieldLeaves T q s f) (l .component) (l .subcomponent) ≡ true) (flatMap (leavesIn T (before T q s)) xs)
   lists-listed f xs a =
-      all-flatMap (λ (l : Leaf). hasLeaf (leavesAt T q s f) (l .component) (l .subcomponent) ≡ true) (leavesIn T (before T q s)) xs
-      (all-map (Lists T q s f) (λ x. All (λ (l : Leaf). hasLeaf (leavesAt T q s f) (l .component) (l .subcomponent) ≡ true) (leavesIn T (before T q s) x)) (λ x h. h .1) xs a)
+      all-flatMap (λ (l : Leaf). hasLeaf (fieldLeaves T q s f) (l .component) (l .subcomponent) ≡ true) (leavesIn T (before T q s)) xs
+      (all-map (Lists T q s f) (λ x. All (λ (l : Leaf). hasLeaf (fieldLeaves T q s f) (l .component) (l .subcomponent) ≡ true) (leavesIn T (before T q s) x)) (λ x h. h .1) xs a)
 
   field-same : (u : Rule) → RuleOk (Lists T q s) (Says T q s) u → fieldSeen T q (strikeSegment T q s) u ≡ fieldSeen T q s u
   unfolding fieldSeen repetitions

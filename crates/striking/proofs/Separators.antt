@@ -11,11 +11,11 @@ use Rattle.text.specs.declared.marks.Marks.{Marks}
 use Rattle.parts.specs.Split.{front, split, piece}
 use Rattle.frame.specs.Segments.{name, isHeader, field, unsplit}
 use Rattle.profile.specs.Table.{Table}
-use Rattle.striking.specs.Strike.{rewritten, onlyIf, hasComponent, strikeSubcomponent, strikeComponent, hasField, leavesAt, strikeField, strikeAfterNinth, strikeHeader, strikeOther, strikeSegment}
+use Rattle.parts.proofs.Descent.{piece-nil}
+use Rattle.striking.specs.Strike.{rewritten, onlyIf, hasComponent, strikeSubcomponent, strikeComponent, hasField, fieldLeaves, strikeField, strikeAfterNinth, strikeHeader, strikeOther, strikeSegment}
 use Rattle.striking.specs.Striking.{pieces, Leaves}
 use Rattle.striking.proofs.Shrink.{piece-rewritten, count-rewritten}
 use Rattle.striking.proofs.Kept.{subcomponent-shrinks, component-shrinks, unless, component-field, strikeIn, in-shrinks, field-shrinks, field-struck, after-shrinks}
-use Rattle.striking.proofs.Gone.{split-none}
 
 -- 1. Between the fields
 front-count : (k : Bool) (b : ℕ) (ps rs : List Text) → length ps ≡ length rs → length (front k b ps) ≡ length (front k b rs)
@@ -57,17 +57,17 @@ module _ (T : Table) (q : Marks) (s : Text) (f : ℕ) (has : hasField T (name s)
       → pieces (q .component) (piece r (split (q .repetition) (unless k (strikeField T q s f) t))) ≡ pieces (q .component) (piece r (split (q .repetition) t))
   components-by true t r = refl
   components-by false t r =
-      let ls = leavesAt T q s f in
+      let ls = fieldLeaves T q s f in
       rw (has, piece-rewritten (q .repetition) (strikeIn T q s f) (in-shrinks T q s f) t r)
       (count-rewritten (q .component) (strikeComponent q ls) (component-shrinks q ls) (piece r (split (q .repetition) t)))
 
-  module _ (c : ℕ) (listed : hasComponent (leavesAt T q s f) c ≡ true) where
+  module _ (c : ℕ) (listed : hasComponent (fieldLeaves T q s f) c ≡ true) where
     subcomponents-by : (k : Bool) (t : Text) (r : ℕ)
         → pieces (q .subcomponent) (piece c (split (q .component) (piece r (split (q .repetition) (unless k (strikeField T q s f) t)))))
         ≡ pieces (q .subcomponent) (piece c (split (q .component) (piece r (split (q .repetition) t))))
     subcomponents-by true t r = refl
     subcomponents-by false t r =
-        let ls = leavesAt T q s f in
+        let ls = fieldLeaves T q s f in
         let p = piece r (split (q .repetition) t) in
         rw (
           has,
@@ -79,16 +79,16 @@ module _ (T : Table) (q : Marks) (s : Text) (f : ℕ) (has : hasField T (name s)
 
 -- 3. What is not listed has no bytes left
 module _ (T : Table) (q : Marks) (s : Text) (f : ℕ) where
-  component-gone : (k : Bool) (t : Text) (r c : ℕ) → hasComponent (leavesAt T q s f) c ≡ false
+  component-gone : (k : Bool) (t : Text) (r c : ℕ) → hasComponent (fieldLeaves T q s f) c ≡ false
       → piece c (split (q .component) (piece r (split (q .repetition) (onlyIf k (rewritten (q .repetition) (strikeIn T q s f) t))))) ≡ []
   component-gone true t r c h =
-      let ls = leavesAt T q s f in
+      let ls = fieldLeaves T q s f in
       rw (
         piece-rewritten (q .repetition) (strikeIn T q s f) (in-shrinks T q s f) t r,
         piece-rewritten (q .component) (strikeComponent q ls) (component-shrinks q ls) (piece r (split (q .repetition) t)) c,
         h,
       )
-  component-gone false t r c h = rw (split-none (q .repetition) r) (split-none (q .component) c)
+  component-gone false t r c h = rw (piece-nil (q .repetition) r) (piece-nil (q .component) c)
 
 -- WHAT IS LEFT of a segment
 pub leaves : (T : Table) (q : Marks) (s : Text) → Leaves T q s (strikeSegment T q s)

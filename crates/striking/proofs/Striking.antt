@@ -15,13 +15,14 @@ use Rattle.profile.specs.Table.{Table, isListed}
 use Rattle.profile.specs.Profile.{profile01}
 use Rattle.reader.specs.Place.{Place, textAt}
 use Rattle.reader.proofs.Patient.{header-listed}
-use Rattle.striking.specs.Strike.{hasLeaf, leavesAt, strikeSegment, strike}
+use Rattle.striking.specs.Strike.{hasLeaf, fieldLeaves, strikeSegment, strike}
 use Rattle.striking.specs.Striking.{inFirstNine, Striking, NotEmpty}
 use Rattle.striking.proofs.ByExample.{examples-hold, P5-changes, P6-changes}
 use Rattle.striking.proofs.Kept.{name-struck}
 use Rattle.striking.proofs.Message.{L, segments-struck, begins, struck-nine, marks-struck}
 use Rattle.striking.proofs.Listed.{found-named, occurrence-struck, listed-text}
-use Rattle.striking.proofs.Gone.{leaf-none, leaf-struck-out, none-left, splits}
+use Rattle.reader.proofs.Copied.{leaf-none}
+use Rattle.striking.proofs.Gone.{leaf-struck-out, none-left, splits}
 use Rattle.striking.proofs.Separators.{leaves}
 
 -- 1. The names
@@ -46,7 +47,7 @@ module _ (T : Table) (msh : isListed T (bytes "MSH") ≡ true) (m : Text) (good 
 
   -- a place of a segment that the table names, and of one that it does not
   goes-by : (p : Place) (k : Bool) → isListed T (p .name) ≡ k
-      → k && (empty (occurrence m (p .name) (p .occurrence)) || hasLeaf (leavesAt T q (occurrence m (p .name) (p .occurrence)) (p .field)) (p .component) (p .subcomponent)) ≡ false
+      → k && (empty (occurrence m (p .name) (p .occurrence)) || hasLeaf (fieldLeaves T q (occurrence m (p .name) (p .occurrence)) (p .field)) (p .component) (p .subcomponent)) ≡ false
       → inFirstNine p ≡ false → textAt (strike T m) p ≡ []
   unfolding textAt
   goes-by p true l e n =

@@ -1,3 +1,2 @@
 pub mod Strike
-pub mod Fit
 pub mod Striking

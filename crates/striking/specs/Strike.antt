@@ -52,12 +52,12 @@ abbrev pub hasField : Table → Text → ℕ → Bool
 hasField T n f = not (empty (rowsAt T n f))
 
 -- the listed leaves of field f of a segment
-unfoldable pub leavesAt : Table → Marks → Text → ℕ → List Leaf
-leavesAt T q s f = flatMap (λ (r : Row). leavesIn T (namedIn q s) (r .lists)) (rowsAt T (name s) f)
+unfoldable pub fieldLeaves : Table → Marks → Text → ℕ → List Leaf
+fieldLeaves T q s f = flatMap (λ (r : Row). leavesIn T (namedIn q s) (r .lists)) (rowsAt T (name s) f)
 
 abbrev pub strikeField : Table → Marks → Text → ℕ → Text → Text
 strikeField T q s f t =
-    onlyIf (hasField T (name s) f) (rewritten (q .repetition) (λ r p. strikeRepetition q (leavesAt T q s f) p) t)
+    onlyIf (hasField T (name s) f) (rewritten (q .repetition) (λ r p. strikeRepetition q (fieldLeaves T q s f) p) t)
 
 -- the header's first nine bytes stay, and MSH-3 follows them; any other segment's name stays with its separator
 abbrev pub afterNinth : ℕ → ℕ
@@ -83,4 +83,4 @@ strike T m = closed cr (map (strikeSegment T (marksOf m)) (listedSegments T m))
 abbrev pub isListedPlace : Table → Text → Place → Bool
 isListedPlace T m p =
     let s = occurrence m (p .name) (p .occurrence) in
-    isListed T (p .name) && (empty s || hasLeaf (leavesAt T (marksOf m) s (p .field)) (p .component) (p .subcomponent))
+    isListed T (p .name) && (empty s || hasLeaf (fieldLeaves T (marksOf m) s (p .field)) (p .component) (p .subcomponent))

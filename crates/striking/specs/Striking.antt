@@ -17,7 +17,7 @@ use Rattle.reader.specs.Place.{Place, textAt}
 use Rattle.reader.specs.View.{listedSegments}
 use Rattle.worked.specs.Messages.{message, msh, pid, obr, M, withMSH, withPID, withOBX}
 use Rattle.worked.specs.Worked.{Example, _says_, AllHold, P5, P6}
-use Rattle.striking.specs.Strike.{hasComponent, hasField, leavesAt, isListedPlace, strike}
+use Rattle.striking.specs.Strike.{hasComponent, hasField, fieldLeaves, isListedPlace, strike}
 
 -- the header's first nine bytes are its name, MSH-1, MSH-2 and a separator
 abbrev pub inFirstNine : Place → Bool
@@ -44,11 +44,11 @@ pub record Leaves (T : Table) (q : Marks) (s left : Text) : Type 0 where
       (f r : ℕ) → hasField T (name s) f ≡ true
       → pieces (q .component) (repetitionOf q left f r) ≡ pieces (q .component) (repetitionOf q s f r)
   pub subcomponents :
-      (f r c : ℕ) → hasComponent (leavesAt T q s f) c ≡ true
+      (f r c : ℕ) → hasComponent (fieldLeaves T q s f) c ≡ true
       → pieces (q .subcomponent) (componentOf q left f r c) ≡ pieces (q .subcomponent) (componentOf q s f r c)
   pub no-field : (f : ℕ) → unsplit s f ≡ false → hasField T (name s) f ≡ false → field q left f ≡ []
   pub no-component :
-      (f r c : ℕ) → unsplit s f ≡ false → hasComponent (leavesAt T q s f) c ≡ false → componentOf q left f r c ≡ []
+      (f r c : ℕ) → unsplit s f ≡ false → hasComponent (fieldLeaves T q s f) c ≡ false → componentOf q left f r c ≡ []
 
 -- WHAT STRIKING DOES to a message with a good frame, by a table
 pub record Striking (T : Table) (m : Text) : Type 0 where

@@ -15,8 +15,8 @@ use Rattle.text.proofs.Tests.{both}
 use Rattle.text.proofs.Lists.{part-rest}
 use Rattle.tags.specs.declared.Field.{Field}
 use Rattle.tags.specs.declared.Field.the-variants as field
-use Rattle.tags.specs.Fields.{mostOf, fieldOf, size, value, hasTag, Expected, isThere, taken, isZero, isSlipFrom}
-use Rattle.tags.specs.Inner.{ReadsField}
+use Rattle.tags.specs.Fields.{controlTag, placerTag, countTag, longestControl, longestText, greatestCount, countSize, mostOf, fieldOf, size, value, hasTag, Expected, isThere, taken, isZero, isSlipFrom}
+use Rattle.tags.specs.Inner.{ReadsTag}
 
 -- a field as its bytes in the slip tell it
 module _ (s : Text) (at : ℕ) where
@@ -45,26 +45,26 @@ taken-as x t n h e = rw (h, e)
 gone-as : (x : Expected) (t : Text) → hasTag (x .tag) t ≡ false → (isThere x t ≡ x .optional) × (taken x t ≡ 0)
 gone-as x t h = (rw h, rw h)
 
-most-small : (b : Bool) → pick b 20 199 ≤ 199
+most-small : (b : Bool) → pick b longestControl longestText ≤ longestText
 most-small true = omega arith
 most-small false = omega arith
 
-pub number-small : (k n most : ℕ) → most ≡ mostOf k → not (leb 1 n && leb n most) ≡ false → n ≤ 199
+pub number-small : (k n most : ℕ) → most ≡ mostOf k → not (leb 1 n && leb n most) ≡ false → n ≤ longestText
 number-small k n most limit fits =
     let h = both (leb 1 n) (leb n most) (not-false (leb 1 n && leb n most) fits) in
-    omega (arith, leb-true n most (h .1), limit, most-small (eqb k 1))
+    omega (arith, leb-true n most (h .1), limit, most-small (eqb k controlTag))
 
 -- what a field's tests answer, one after another
 module _ (s : Text) (at k : ℕ) where
   module _ (gone : getD s at 0 ≡ k → ⊥) where
-    left-out : (isThere (fieldOf k) (drop at s) ≡ eqb k 3) × (taken (fieldOf k) (drop at s) ≡ 0)
+    left-out : (isThere (fieldOf k) (drop at s) ≡ eqb k placerTag) × (taken (fieldOf k) (drop at s) ≡ 0)
     left-out = gone-as (fieldOf k) (drop at s) (tag-at s at k false (ne-eqb (getD s at 0) k gone))
 
-    pub field-skipped : k ≡ 3 → ReadsField s at k (field.Ends at)
-    field-skipped e = (left-out .0 ∙ eq-eqb k 3 e, (omega (arith, left-out .1), omega arith))
+    pub field-skipped : k ≡ placerTag → ReadsTag s at k (field.Ends at)
+    field-skipped e = (left-out .0 ∙ eq-eqb k placerTag e, (omega (arith, left-out .1), omega arith))
 
-    pub field-missing : (k ≡ 3 → ⊥) → ReadsField s at k field.Bad
-    field-missing n = left-out .0 ∙ ne-eqb k 3 n
+    pub field-missing : (k ≡ placerTag → ⊥) → ReadsTag s at k field.Bad
+    field-missing n = left-out .0 ∙ ne-eqb k placerTag n
 
   module _ (there : getD s at 0 ≡ k) (n most : ℕ) (number : n ≡ getD s (at + 1) 0 * 256 + getD s (at + 2) 0) (limit : most ≡ mostOf k) where
     tagged : hasTag k (drop at s) ≡ true
@@ -75,7 +75,7 @@ module _ (s : Text) (at k : ℕ) where
         let e = size-at s at n number in
         rw limit (there-as (fieldOf k) (drop at s) (within (at + 3) (at + 3 + n) s) n tagged (value-at s at n e) e)
 
-    pub field-length : not (leb 1 n && leb n most) ≡ true → ReadsField s at k field.Bad
+    pub field-length : not (leb 1 n && leb n most) ≡ true → ReadsTag s at k field.Bad
     field-length w = asked ∙ rw (not-true (leb 1 n && leb n most) w)
 
     module _ (fits : not (leb 1 n && leb n most) ≡ false) where
@@ -83,22 +83,22 @@ module _ (s : Text) (at k : ℕ) where
         printed : isThere (fieldOf k) (drop at s) ≡ b
         printed = asked ∙ rw (not-false (leb 1 n && leb n most) fits) (sym plain)
 
-        pub field-bytes : not b ≡ true → ReadsField s at k field.Bad
+        pub field-bytes : not b ≡ true → ReadsTag s at k field.Bad
         field-bytes w = printed ∙ not-true b w
 
-        pub field-read : not b ≡ false → ReadsField s at k (field.Ends (at + 3 + n))
+        pub field-read : not b ≡ false → ReadsTag s at k (field.Ends (at + 3 + n))
         field-read w =
             let takes = taken-as (fieldOf k) (drop at s) n tagged (size-at s at n number) in
             (printed ∙ not-false b w, (omega (arith, takes), omega (arith, number-small k n most limit fits)))
 
 -- the count and the zeros behind it
 pub ends-as : (s : Text) (at n count : ℕ) (b : Bool) → n ≡ getD s (at + 1) 0 * 256 + getD s (at + 2) 0
-    → count ≡ getD s (at + 3) 0 * 256 + getD s (at + 4) 0 → b ≡ every isZero (within (at + 5) (length s) s)
-    → eqb (getD s at 0) 6 && eqb n 2 && leb count 509 && b ≡ isSlipFrom [] (drop at s)
+    → count ≡ getD s (at + 3) 0 * 256 + getD s (at + 4) 0 → b ≡ every isZero (within (at + countSize) (length s) s)
+    → eqb (getD s at 0) countTag && eqb n 2 && leb count greatestCount && b ≡ isSlipFrom [] (drop at s)
 unfolding isSlipFrom
 ends-as s at n count b e f z =
-    rw (e, f, z, part-rest (at + 5) s, drop-drop 5 at s, first-at s at, getD-drop at s 1 0, getD-drop at s 2 0, getD-drop at s 3 0, getD-drop at s 4 0)
+    rw (e, f, z, part-rest (at + countSize) s, drop-drop countSize at s, first-at s at, getD-drop at s 1 0, getD-drop at s 2 0, getD-drop at s 3 0, getD-drop at s 4 0)
 
 -- along which case of the answer it is
-pub field-as : (s : Text) (at k : ℕ) (r f : Field) → r ≡ f → ReadsField s at k r → ReadsField s at k f
-field-as s at k r f e h = subst (λ (x : Field). ReadsField s at k x) e h
+pub field-as : (s : Text) (at k : ℕ) (r f : Field) → r ≡ f → ReadsTag s at k r → ReadsTag s at k f
+field-as s at k r f e h = subst (λ (x : Field). ReadsTag s at k x) e h

@@ -6,10 +6,10 @@ use lib.ListN.{drop}
 use Rattle.text.specs.Bytes.{Text}
 use Rattle.tags.specs.declared.Field.{Field}
 use Rattle.tags.specs.declared.Field.the-variants as field
-use Rattle.tags.specs.Fields.{fieldOf, isThere, taken}
+use Rattle.tags.specs.Fields.{fieldOf, isThere, longestField, taken}
 
 -- a field as it stands at a place of a slip: bad, or it ends there
-abbrev pub ReadsField : Text → ℕ → ℕ → Field → Type 0
-ReadsField s at k field.Bad = isThere (fieldOf k) (drop at s) ≡ false
-ReadsField s at k (field.Ends e) =
-    (isThere (fieldOf k) (drop at s) ≡ true) × ((e ≡ at + taken (fieldOf k) (drop at s)) × (e ≤ at + 202))
+abbrev pub ReadsTag : Text → ℕ → ℕ → Field → Type 0
+ReadsTag s at k field.Bad = isThere (fieldOf k) (drop at s) ≡ false
+ReadsTag s at k (field.Ends e) =
+    (isThere (fieldOf k) (drop at s) ≡ true) × ((e ≡ at + taken (fieldOf k) (drop at s)) × (e ≤ at + longestField))

@@ -4,9 +4,28 @@ ghost use mathlib.Core.List.{[]};
 ghost use Prim.Native.Nat.{_+_, _*_, _≤_};
 ghost use lib.ListN.{length, drop};
 ghost use Rattle.text.specs.Bytes.{every, printable};
-ghost use Rattle.tags.specs.Fields.{mostOf, isZero, isSlipFrom};
-ghost use Rattle.tags.specs.Inner.{ReadsField};
+ghost use Rattle.tags.specs.Fields.{countSize, isSlipFrom, isZero, longestField, mostOf};
+ghost use Rattle.tags.specs.Inner.{ReadsTag};
 use text::is_printable;
+
+// The tags that are not like the others: the control number's value is shorter, the placer's number may be left out, the count is no text.
+pub const CONTROL_TAG: u8 = 1;
+
+const PLACER_TAG: u8 = 3;
+
+pub const COUNT_TAG: u8 = 6;
+
+// Bytes of a tag and a length, which stand before every value; and of the count with them.
+pub const HEAD_SIZE: usize = 3;
+
+pub const COUNT_SIZE: usize = 5;
+
+// The greatest length of the control number, of any other text, and the greatest count.
+const LONGEST_CONTROL: usize = 20;
+
+const LONGEST_TEXT: usize = 199;
+
+const GREATEST_COUNT: usize = 509;
 
 // A field of text as it stands in a slip: bad, or where the next field begins.
 pub enum Field {
@@ -18,14 +37,14 @@ pub enum Field {
 fn most(tag: u8) -> usize
     ensures { λ r. ⌜ r ≡ mostOf tag ⌝ }
 {
-    if tag == 1 {
-        return 20;
+    if tag == CONTROL_TAG {
+        return LONGEST_CONTROL;
     }
-    199
+    LONGEST_TEXT
 }
 
 // The number in two bytes, high byte first.
-fn number(high: u8, low: u8) -> usize
+fn from_two_bytes(high: u8, low: u8) -> usize
     ensures { λ r. ⌜ r ≡ high * 256 + low ⌝ }
 {
     (high as usize) * 256 + low as usize
@@ -56,21 +75,21 @@ fn all_zero(t: &[u8]) -> bool
 }
 
 // The field of tag 1 to 5 at a place of the slip. Only tag 3 may be left out.
-pub fn read_field(s: &[u8], at: usize, tag: u8) -> Field
-    requires { ⌜ at + 202 ≤ length (now s) ⌝ }
-    ensures { λ r. ⌜ ReadsField (now (s .entry)) at tag r ⌝ }
+pub fn read_tag(s: &[u8], at: usize, tag: u8) -> Field
+    requires { ⌜ at + longestField ≤ length (now s) ⌝ }
+    ensures { λ r. ⌜ ReadsTag (now (s .entry)) at tag r ⌝ }
 {
     if s[at] != tag {
-        if tag == 3 {
+        if tag == PLACER_TAG {
             return Field::Ends(at);
         }
         return Field::Bad;
     }
-    let n = number(s[at + 1], s[at + 2]);
+    let n = from_two_bytes(s[at + 1], s[at + 2]);
     if !((1 <= n) & (n <= most(tag))) {
         return Field::Bad;
     }
-    let start = at + 3;
+    let start = at + HEAD_SIZE;
     let end = start + n;
     if !all_printable(&s[start..end]) {
         return Field::Bad;
@@ -80,10 +99,10 @@ pub fn read_field(s: &[u8], at: usize, tag: u8) -> Field
 
 // The count in its two bytes, then zeros.
 pub fn ends_well(s: &[u8], at: usize) -> bool
-    requires { ⌜ at + 5 ≤ length (now s) ⌝ }
+    requires { ⌜ at + countSize ≤ length (now s) ⌝ }
     ensures { λ r. ⌜ r ≡ isSlipFrom [] (drop at (now (s .entry))) ⌝ }
 {
-    let size = number(s[at + 1], s[at + 2]);
-    let count = number(s[at + 3], s[at + 4]);
-    (s[at] == 6) & (size == 2) & (count <= 509) & all_zero(&s[at + 5..])
+    let size = from_two_bytes(s[at + 1], s[at + 2]);
+    let count = from_two_bytes(s[at + 3], s[at + 4]);
+    (s[at] == COUNT_TAG) & (size == 2) & (count <= GREATEST_COUNT) & all_zero(&s[at + COUNT_SIZE..])
 }

@@ -3,11 +3,12 @@ use mathlib.Core.Path.{_≡_, refl, sym, ap, _∙_}
 use Prim.Native.Nat.{ℕ, zero, suc, _+_, _-_, _≤_, _<_}
 use native.Mathlib.Numerals.{add-one}
 use native.Mathlib.Omega.{arith}
-use lib.ListN.{length, getD, take, drop, drop-of-length-le, length-drop}
-use lib.Seq.{drop-cons, take-all}
-use mathlib.Core.Bool.{Bool, true, false, _&&_, _||_}
+use native.Mathlib.Nat.{sub-zero, zero-sub, suc-sub-suc}
+use lib.ListN.{length, getD, take, drop, replicate, drop-of-length-le, length-drop}
+use lib.Seq.{drop-cons, take-all, take-nil}
+use mathlib.Core.Bool.{Bool, true, false, not, _&&_, _||_}
 use mathlib.Core.List.{List, [], _∷_, _++_, map, flatMap}
-use Rattle.text.specs.Bytes.{pick, every, some, keep}
+use Rattle.text.specs.Bytes.{pick, empty, every, some, keep}
 use Rattle.text.proofs.Tests.{not-true, both}
 
 pub and-both : (a b : Bool) → a ≡ true → b ≡ true → a && b ≡ true
@@ -184,3 +185,69 @@ module _ {A : Type 0} (p : A → Bool) where
 -- the part of a list from a place to the end, as code takes it
 pub part-rest : {A : Type 0} (a : ℕ) (t : List A) → take (length t - a) (drop a t) ≡ drop a t
 part-rest a t = take-all (length t - a) (drop a t) (simp length-drop (omega arith))
+
+module _ {A : Type 0} where
+  -- the first ones of a list, further on
+  pub drop-take : (k n : ℕ) (l : List A) → drop k (take n l) ≡ take (n - k) (drop k l)
+  drop-take zero n l = rw sub-zero
+  drop-take (suc k) zero l = rw zero-sub
+  drop-take (suc k) (suc n) [] = rw (take-nil (suc n - suc k))
+  drop-take (suc k) (suc n) (x ∷ l) = rw suc-sub-suc (drop-take k n l)
+
+  -- the same member over and over, further on
+  pub drop-replicate : (x : A) (k n : ℕ) → drop k (replicate n x) ≡ replicate (n - k) x
+  drop-replicate x zero n = rw (sub-zero n)
+  drop-replicate x (suc k) zero = rw (zero-sub (suc k))
+  drop-replicate x (suc k) (suc n) = rw (suc-sub-suc n k) (drop-replicate x k n)
+
+  keep-most-step : (x : A) (k l : List A) (b : Bool) → length k ≤ length l → length (pick b (x ∷ k) k) ≤ suc (length l)
+  keep-most-step x k l true h = omega arith
+  keep-most-step x k l false h = omega arith
+
+  -- a test keeps no more members than there are
+  pub keep-most : (f : A → Bool) (l : List A) → length (keep f l) ≤ length l
+  unfolding keep
+  keep-most f [] = omega arith
+  keep-most f (x ∷ l) = keep-most-step x (keep f l) l (f x) (keep-most f l)
+
+module _ {A : Type 0} where
+  -- a member: of a test that it passes, some member passes it
+  abbrev pub Member : List A → A → Type 0
+  Member l x = (h : A → Bool) → h x ≡ true → some h l ≡ true
+
+  member-more : (y : A) (l : List A) (x : A) → Member l x → Member (y ∷ l) x
+  unfolding some
+  member-more y l x t h e = or-right (h y) (some h l) (t h e)
+
+  member-here : (x : A) (l : List A) → Member (x ∷ l) x
+  unfolding some
+  member-here x l h e = or-left (h x) (some h l) e
+
+  pub all-members : (l : List A) → All (Member l) l
+  all-members [] = tt
+  all-members (x ∷ l) =
+      (member-here x l, all-map (Member l) (Member (x ∷ l)) (λ y. member-more x l y) l (all-members l))
+
+  some-kept-step : (k : A → Bool) (x : A) (l : List A) (b r : Bool) → k x ≡ b → (r ≡ true → not (empty (keep k l)) ≡ true)
+      → b || r ≡ true → not (empty (pick b (x ∷ keep k l) (keep k l))) ≡ true
+  some-kept-step k x l true r e ih h = refl
+  some-kept-step k x l false r e ih h = ih h
+
+  -- where some member passes a test, one is kept
+  pub some-kept : (k : A → Bool) (l : List A) → some k l ≡ true → not (empty (keep k l)) ≡ true
+  unfolding some keep
+  some-kept k [] e = e
+  some-kept k (x ∷ l) e = some-kept-step k x l (k x) (some k l) refl (some-kept k l) e
+
+-- how many members two tests keep that never hold together
+module _ {A : Type 0} (f g : A → Bool) (apart : (x : A) → f x ≡ true → g x ≡ false) where
+  apart-step : (x : A) (k l r : List A) (b c : Bool) → (b ≡ true → c ≡ false) → length k + length l ≤ length r
+      → length (pick b (x ∷ k) k) + length (pick c (x ∷ l) l) ≤ length (pick (b || c) (x ∷ r) r)
+  apart-step x k l r true c e h = rw (e refl) (omega arith)
+  apart-step x k l r false true e h = omega arith
+  apart-step x k l r false false e h = h
+
+  pub keep-apart : (l : List A) → length (keep f l) + length (keep g l) ≤ length (keep (λ x. f x || g x) l)
+  unfolding keep
+  keep-apart [] = omega arith
+  keep-apart (x ∷ l) = apart-step x (keep f l) (keep g l) (keep (λ y. f y || g y) l) (f x) (g x) (apart x) (keep-apart l)

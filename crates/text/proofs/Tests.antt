@@ -7,9 +7,10 @@ use mathlib.Core.Bool.{Bool, true, false, _&&_}
 use mathlib.Core.List.{[], _∷_}
 use lib.ListN.{length, getD, drop, drop-of-length-le}
 use lib.Seq.{drop-cons}
-use lib.Dec.{eqb}
-use borrow.Author.Tests.{eq-eqb, ne-eqb, eqb-true}
+use lib.Dec.{eqb, leb}
+use borrow.Author.Tests.{eq-eqb, ne-eqb, eqb-true, leb-true}
 use Rattle.text.specs.Bytes.{Text, pick, empty, same}
+use Rattle.text.specs.Limits.{_to_, isWithin}
 
 -- what is false is not true
 pub not-true : {A : Type 0} → false ≡ true → A
@@ -18,6 +19,13 @@ not-true e = absurd (let z : _≡_ {A = ℕ} 0 1 = cc in omega arith)
 pub both : (a b : Bool) → a && b ≡ true → (a ≡ true) × (b ≡ true)
 both true b e = (refl, e)
 both false b e = not-true e
+
+-- a number within a range is neither below nor above it
+pub within-low : (a b n : ℕ) → isWithin (a to b) n ≡ true → a ≤ n
+within-low a b n e = leb-true a n (both (leb a n) (leb n b) e .0)
+
+pub within-high : (a b n : ℕ) → isWithin (a to b) n ≡ true → n ≤ b
+within-high a b n e = leb-true n b (both (leb a n) (leb n b) e .1)
 
 -- texts that are tested equal are equal, and the other way round
 pub same-true : (s t : Text) → same s t ≡ true → s ≡ t

@@ -1,5 +1,6 @@
-// Bytes and byte strings, the five separators, writing into a lent buffer; the numbers that a caller gets back.
+// Bytes and byte strings, the five separators, the very part of lent bytes, writing into a lent buffer; the numbers that a caller gets back.
 mod bytes;
+mod lent;
 mod marks;
 mod refusal;
 mod writing;
@@ -9,6 +10,7 @@ pub use bytes::is_capital_or_digit;
 pub use bytes::is_digit;
 pub use bytes::is_printable;
 pub use bytes::is_same;
+pub use lent::part;
 pub use marks::Marks;
 pub use marks::marks_of;
 pub use marks::usual_marks;

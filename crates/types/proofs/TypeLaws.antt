@@ -1,19 +1,19 @@
 -- Laws of the digits, first bytes and ranges of the simple types.
-use Prim.Native.Nat.{ℕ, zero, suc, _+_, _-_, _≤_, _<_}
+use Prim.Native.Nat.{ℕ, suc, _+_, _-_, _≤_, _<_}
 use mathlib.Core.Path.{_≡_, refl, sym, ap, _∙_}
 use mathlib.Core.Bool.{Bool, true, false, _&&_}
 use mathlib.Core.List.{List, [], _∷_}
-use native.Mathlib.Numerals.{add-one, unary-clauses}
+use native.Mathlib.Numerals.{add-one}
 use native.Mathlib.Omega.{arith}
 use borrow.Author.Tests.{lt-ltb, leb-true}
 use lib.ListN.{length, getD, take, drop, drop-of-length-le, length-drop}
-use lib.Seq.{take-nil, drop-cons}
+use lib.Seq.{drop-cons}
 use lib.Dec.{eqb, leb, ltb, eqb·zero-suc, eqb·suc-suc}
 use Rattle.text.specs.Bytes.{Text, pick, digit, empty, every}
 use Rattle.types.specs.Types.{digits, rest, begins, two, twos, rangesOf}
 use Rattle.text.specs.Limits.{Range, _to_, isWithin}
 use Rattle.text.proofs.Tests.{both}
-use Rattle.text.proofs.Lists.{every-drop, part-rest}
+use Rattle.text.proofs.Lists.{every-drop, part-rest, drop-take}
 
 -- the digits are the text's front, and the rest is what follows them
 take-step : (b : ℕ) (t d : Text) (c : Bool) → take (length d) t ≡ d → take (length (pick c (b ∷ d) [])) (b ∷ t) ≡ pick c (b ∷ d) []
@@ -99,12 +99,6 @@ begins-at p (b ∷ t) h = refl
 -- parts of a text, as code takes them: behind the digits, and within the digits
 pub part-after-digits : (t : Text) (n : ℕ) → n ≡ length (digits t) → take (length t - n) (drop n t) ≡ rest t
 part-after-digits t n e = part-rest n t ∙ ap (λ k. drop k t) e ∙ digits-drop t
-
-drop-take : (f n : ℕ) (l : Text) → drop f (take n l) ≡ take (n - f) (drop f l)
-drop-take zero n l = simp unary-clauses
-drop-take (suc f) zero l = let e : 0 - suc f ≡ 0 = omega arith in rw e
-drop-take (suc f) (suc n) [] = sym (take-nil (suc n - suc f))
-drop-take (suc f) (suc n) (x ∷ l) = simp unary-clauses (drop-take f n l)
 
 pub part-of-digits : (a : ℕ) (t : Text) (n : ℕ) → n ≡ length (digits t) → take (n - a) (drop a t) ≡ drop a (digits t)
 part-of-digits a t n e = sym (drop-take a n t) ∙ ap (drop a) (ap (λ k. take k t) e ∙ digits-take t)

@@ -30,9 +30,13 @@ point b = eqb b (byte ".")
 abbrev pub isSI : Text → Bool
 isSI t = every digit t
 
+-- what stands behind the point that a text begins with: no bytes where it begins with none
+abbrev pub behindPoint : Text → Text
+behindPoint t = pick (begins point t) (drop 1 t) []
+
 -- a point and at least one digit, to the end
 abbrev pub isDecimals : Text → Bool
-isDecimals t = begins point t && begins digit (drop 1 t) && every digit (drop 1 t)
+isDecimals t = begins digit (behindPoint t) && every digit (behindPoint t)
 
 -- at least one digit, then nothing, or the decimals
 abbrev pub isUnsigned : Text → Bool
@@ -70,8 +74,7 @@ isZone t = empty t || begins sign t && eqb (length t) 5 && every digit (drop 1 t
 
 -- a point, one to four digits, and the zone
 abbrev pub isFraction : Text → Bool
-isFraction t =
-    begins point t && isWithin (1 to 4) (length (digits (drop 1 t))) && isZone (rest (drop 1 t))
+isFraction t = isWithin (1 to 4) (length (digits (behindPoint t))) && isZone (rest (behindPoint t))
 
 -- DTM: YYYY[MM[DD[HH[MM[SS[.S[S[S[S]]]]]]]]] and the zone
 abbrev pub isDTM : Text → Bool

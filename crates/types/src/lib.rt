@@ -4,7 +4,7 @@ ghost use mathlib.Core.Path.{_≡_};
 ghost use Prim.Native.Nat.{_≤_};
 ghost use lib.ListN.{length};
 ghost use Rattle.text.specs.Bytes.{digit, every};
-ghost use Rattle.types.specs.Types.{digits, isDTM, isDecimals, isFraction, isNM, isReplyNumber, isSI, isStamp, isTM, isUnsigned, isZone, rangesOf, sign, twos};
+ghost use Rattle.types.specs.Types.{behindPoint, digits, isDTM, isDecimals, isFraction, isNM, isReplyNumber, isSI, isStamp, isTM, isUnsigned, isZone, rangesOf, sign, twos};
 use text::is_capital_or_digit;
 use text::is_digit;
 
@@ -39,16 +39,23 @@ pub fn is_si(t: &[u8]) -> bool
     digits_len(t) == t.len()
 }
 
+// What stands behind the point that the text begins with: no bytes where it begins with none.
+fn behind_point<'a>(t: &'a [u8]) -> &'a [u8]
+    ensures { λ r. ⌜ now r ≡ behindPoint (now (t .entry)) ⌝ }
+{
+    if t.len() == 0 {
+        return t;
+    }
+    if t[0] != b'.' {
+        return &t[0..0];
+    }
+    &t[1..]
+}
+
 fn is_decimals(t: &[u8]) -> bool
     ensures { λ r. ⌜ r ≡ isDecimals (now (t .entry)) ⌝ }
 {
-    if t.len() == 0 {
-        return false;
-    }
-    if t[0] != b'.' {
-        return false;
-    }
-    let after = &t[1..];
+    let after = behind_point(t);
     let n = digits_len(after);
     (0 < n) & (n == after.len())
 }
@@ -116,13 +123,7 @@ fn is_zone(t: &[u8]) -> bool
 fn is_fraction(t: &[u8]) -> bool
     ensures { λ r. ⌜ r ≡ isFraction (now (t .entry)) ⌝ }
 {
-    if t.len() == 0 {
-        return false;
-    }
-    if t[0] != b'.' {
-        return false;
-    }
-    let after = &t[1..];
+    let after = behind_point(t);
     let n = digits_len(after);
     if !((1 <= n) & (n <= 4)) {
         return false;

@@ -46,7 +46,7 @@ put-resolved-requires : tie.Need-put-resolved-requires
 put-resolved-requires c κs =
     let b = c .before .before .before .before .before in
     let r = room (c .before) in
-    (b .pre .0 .0, simp length-set (omega (arith, c .before .before .resolved-len .ensures)))
+    (b .pre .0 .good, simp length-set (omega (arith, c .before .before .resolved-len .ensures)))
 
 returns-2 : tie.Need-returns-2
 returns-2 c =

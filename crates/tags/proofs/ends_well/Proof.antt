@@ -9,8 +9,8 @@ returns c =
     let counted = c .before .before .before in
     let sized = counted .before .before .before in
     let start = sized .before .before .before .before .args in
-    ends-as (start .s .now) (start .at) (sized .number .result) (counted .number2 .result) (c .all-zero .result)
-    (sized .number .ensures) (counted .number2 .ensures) (c .all-zero .ensures)
+    ends-as (start .s .now) (start .at) (sized .from-two-bytes .result) (counted .from-two-bytes2 .result) (c .all-zero .result)
+    (sized .from-two-bytes .ensures) (counted .from-two-bytes2 .ensures) (c .all-zero .ensures)
 
 pub ends-well-spec : {M : Type 1} → statement M
 ends-well-spec =

@@ -3,6 +3,7 @@ use Prim.Native.Nat.{_-_}
 use mathlib.Core.Path.{ap, _∙_}
 use mathlib.Core.Logic.{⊎-elim}
 use native.Mathlib.Omega.{arith}
+use Rattle.tags.specs.Fields.{countTag}
 use Rattle.tags.proofs.SlipField.{field-as}
 use Rattle.book.proofs.ReadSlip.{ReadTo, read-none, read-bad, read-here, read-past, read-no-slip, read-count, read-found}
 use Rattle.book.specs.Told.{valueOf}
@@ -14,20 +15,20 @@ abbrev Inv-loop : tie.InvT-loop
 Inv-loop s base tag found₀ at₀ k₀ found at k = ReadTo s base tag found at k
 
 abbrev μ-loop : tie.MeasureT-loop
-μ-loop s base tag found₀ at₀ k₀ found at k = 6 - k
+μ-loop s base tag found₀ at₀ k₀ found at k = countTag - k
 
 loop-holds : tie.Need-loop-holds Inv-loop μ-loop
 loop-holds c = let start = c .before .args in read-none (start .s .now) (start .base) (start .tag)
 
-read-field-requires : tie.Need-read-field-requires Inv-loop μ-loop
-read-field-requires c κs = omega (arith, c .before .loop .inv .near, c .loop-test .taken, c .before .before .before .pre)
+read-tag-requires : tie.Need-read-tag-requires Inv-loop μ-loop
+read-tag-requires c κs = omega (arith, c .before .loop .inv .near, c .loop-test .taken, c .before .before .before .pre)
 
 returns : tie.Need-returns Inv-loop μ-loop
 returns c =
     let inside = c .before .before .before in
     let loop = inside .before .loop in
     let start = inside .before .before .before .args in
-    let read = c .before .before .read-field in
+    let read = c .before .before .read-tag in
     read-bad (start .s .now) (start .base) (start .tag) (loop .found) (loop .at) (loop .k) (loop .inv) (inside .loop-test .taken)
     (field-as (start .s .now) (loop .at) (loop .k) (read .result) _ (c .enum-told .given .1) (read .ensures))
 
@@ -36,7 +37,7 @@ value-in-requires c κs =
     let inside = c .before .before .before .before .before in
     let loop = inside .before .loop in
     let start = inside .before .before .before in
-    let read = c .before .before .before .before .read-field in
+    let read = c .before .before .before .before .read-tag in
     let w = field-as (start .args .s .now) (loop .at) (loop .k) (read .result) _ (c .before .before .end .given .1) (read .ensures) in
     (omega (arith, loop .inv .near, inside .loop-test .taken, start .pre), omega (arith, loop .inv .near, inside .loop-test .taken, start .pre))
 
@@ -45,7 +46,7 @@ loop-again c =
     let inside = c .before .before .before .before .before in
     let loop = inside .before .loop in
     let start = inside .before .before .before .args in
-    let read = c .before .before .before .before .read-field in
+    let read = c .before .before .before .before .read-tag in
     let w = field-as (start .s .now) (loop .at) (loop .k) (read .result) _ (c .before .before .end .given .1) (read .ensures) in
     ⊎-elim
     (λ z. rw (z .2, z .1 .ensures) (read-here (start .s .now) (start .base) (start .tag) (loop .found) (loop .at) (loop .k) (loop .inv) (inside .loop-test .taken) _ w (z .0 .taken)))
@@ -88,7 +89,7 @@ read-in-spec =
     Inv-loop
     μ-loop
     loop-holds
-    read-field-requires
+    read-tag-requires
     (λ c. search needs)
     (λ c. search needs)
     returns
@@ -99,6 +100,7 @@ read-in-spec =
     loop-again
     (λ c κs. search needs)
     returns-2
+    (λ c. search needs)
     (λ c. search needs)
     (λ c κs. search needs)
     returns-3

@@ -3,7 +3,7 @@ use mathlib.Core.Path.{sym, ap, _∙_}
 use Rattle.text.specs.Bytes.{Text}
 use Rattle.reader.specs.Place.{Place}
 use Rattle.reader.specs.LookUp.{lookUp}
-use Rattle.numbers.specs.Told.{asked}
+use Rattle.numbers.specs.Told.{placeAsked}
 use Rattle.numbers.proofs.Asked.{three, zeros-same}
 use borrow.Author.Needs.{needs}
 use Rattle.numbers.proofs.place.place_asked.Statement.{statement}
@@ -20,7 +20,7 @@ returns-2 c m =
     let e = c .before .before .before .before in
     let a = e .before .before .args in
     ap (λ (p : Place). lookUp m p) (c .place-of2 .ensures)
-    ∙ ap (λ (t : Text). lookUp m (asked t (a .n .now))) (sym (three (a .name .now) (e .if1 .left)))
+    ∙ ap (λ (t : Text). lookUp m (placeAsked t (a .n .now))) (sym (three (a .name .now) (e .if1 .left)))
 
 pub place-asked-spec : {M : Type 1} → statement M
 place-asked-spec =

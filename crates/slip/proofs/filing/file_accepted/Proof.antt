@@ -1,7 +1,7 @@
 -- `file_accepted`: NoGroup, NoSlot, or the slip in its slot.
 use mathlib.Core.Path.{refl, sym, _∙_}
 use native.Mathlib.Omega.{arith}
-use Rattle.slip.proofs.Answers.{slot-room, own-zero, own-missing, own-slot, own-slip}
+use Rattle.slip.proofs.Answers.{own-zero, own-missing, own-slot, own-slip}
 use Rattle.slip.specs.Inner.{IsOrder}
 use borrow.Author.Needs.{needs}
 use Rattle.slip.proofs.filing.file_accepted.Statement.{statement}
@@ -26,17 +26,13 @@ fill-group-requires c κs =
     let b = h .before .before .before .before in
     (b .pre, ((b .args .group, (omega (arith, h .before .if1 .left), sym (s .start .given .1) ∙ h .occurrence .ensures)), refl))
 
-mul-put : tie.Need-mul-put
-mul-put c =
+slot-start-requires : tie.Need-slot-start-requires
+slot-start-requires c κs =
     let there = c .before .before .before .before in
-    let b = there .before .before .before .before .before .before .before .before .before .before in
-    omega (arith, slot-room (b .args .book .now) (b .args .slot) (sym (there .before .no-slot .ensures) ∙ there .if2 .left), b .good)
+    sym (there .before .no-slot .ensures) ∙ there .if2 .left
 
 put-requires : tie.Need-put-requires
-put-requires c κs =
-    let there = c .before .before .before .before .before in
-    let b = there .before .before .before .before .before .before .before .before .before .before in
-    omega (arith, slot-room (b .args .book .now) (b .args .slot) (sym (there .before .no-slot .ensures) ∙ there .if2 .left))
+put-requires c κs = omega (arith, c .before .before .slot-start .ensures)
 
 returns-3 : tie.Need-returns-3
 returns-3 c =
@@ -46,7 +42,8 @@ returns-3 c =
 
 returns-4 : tie.Need-returns-4
 returns-4 c =
-    let w = c .before .before .before .before .before .before in
+    let found = c .before .before .before .before .before in
+    let w = found .before .before .before in
     let there = w .before .before in
     let n = there .before in
     let s = n .before .before .before in
@@ -54,7 +51,8 @@ returns-4 c =
     let a = h .before .before .before .before .args in
     let o : IsOrder (a .m .now) (a .group) _ _ = (omega (arith, h .before .if1 .left), sym (s .start .given .1) ∙ h .occurrence .ensures) in
     own-slip (a .m .now) (a .group) (a .slot) (a .book .now) _ _ o
-    (sym (n .no-slot .ensures) ∙ there .if2 .left) (w .fill-group .last .1 .1 .1 .0) _ _ (search needs) (w .fill-group .ensures _ o) (c .before .before .put .ensures)
+    (sym (n .no-slot .ensures) ∙ there .if2 .left) (w .fill-group .last .1 .1 .1 .0) _ _ _ (search needs) (w .fill-group .ensures _ o)
+    (found .slot-start .ensures .0) (c .before .before .put .ensures)
 
 pub file-accepted-spec : {M : Type 1} → statement M
 file-accepted-spec =
@@ -69,7 +67,7 @@ file-accepted-spec =
     returns-2
     (λ c. search needs)
     fill-group-requires
-    mul-put
+    slot-start-requires
     (λ c. search needs)
     put-requires
     returns-3

@@ -98,7 +98,7 @@ fill-requires : tie.Need-fill-requires
 fill-requires c κs =
     let s = c .before .before .before .before .before .before .before .before .before .before .before .before in
     let o = s .pre .1 .0 in
-    (s .pre .1 .1, group-fits (read c) (o .0) (o .1) (s .pre .0 .0) (s .pre .0 .1))
+    group-fits (read c) (o .0) (o .1) (s .pre .0 .0) (s .pre .0 .1) _ (s .pre .1 .1)
 
 returns : tie.Need-returns
 returns c g o =

@@ -1,9 +1,9 @@
--- `read_field`: its tag, its length and its bytes are tested one after another.
+-- `read_tag`: its tag, its length and its bytes are tested one after another.
 use native.Mathlib.Omega.{arith}
 use Rattle.tags.proofs.SlipField.{field-skipped, field-missing, field-length, number-small, field-bytes, field-read}
 use borrow.Author.Needs.{needs}
-use Rattle.tags.proofs.read_field.Statement.{statement}
-use Rattle.tags.proofs.read_field.Tie as tie
+use Rattle.tags.proofs.read_tag.Statement.{statement}
+use Rattle.tags.proofs.read_tag.Tie as tie
 
 returns : tie.Need-returns
 returns c =
@@ -19,20 +19,20 @@ returns-3 : tie.Need-returns-3
 returns-3 c =
     let named = c .before .before .before .before .before in
     let start = named .before .before .before .args in
-    let size = c .before .before .number in
+    let size = c .before .before .from-two-bytes in
     let most = c .before .most in
     field-length (start .s .now) (start .at) (start .tag) (named .if1 .left) (size .result) (most .result) (size .ensures) (most .ensures) (c .if3 .taken)
 
 add-end : tie.Need-add-end
 add-end c =
     let start = c .before .before .before .before .before .before .before .before .args in
-    let n = number-small (start .tag) (c .before .before .number .result) (c .before .most .result) (c .before .most .ensures) (c .if3 .left) in
+    let n = number-small (start .tag) (c .before .before .from-two-bytes .result) (c .before .most .result) (c .before .most .ensures) (c .if3 .left) in
     omega arith
 
 part-all-printable-end : tie.Need-part-all-printable-end
 part-all-printable-end c =
     let start = c .before .before .before .before .before .before .before .before .args in
-    let n = number-small (start .tag) (c .before .before .number .result) (c .before .most .result) (c .before .most .ensures) (c .if3 .left) in
+    let n = number-small (start .tag) (c .before .before .from-two-bytes .result) (c .before .most .result) (c .before .most .ensures) (c .if3 .left) in
     omega arith
 
 returns-4 : tie.Need-returns-4
@@ -40,7 +40,7 @@ returns-4 c =
     let sized = c .before .before .before in
     let named = sized .before .before .before .before .before in
     let start = named .before .before .before .args in
-    let size = sized .before .before .number in
+    let size = sized .before .before .from-two-bytes in
     let most = sized .before .most in
     let bytes = c .before .all-printable in
     field-bytes (start .s .now) (start .at) (start .tag) (named .if1 .left) (size .result) (most .result) (size .ensures) (most .ensures) (sized .if3 .left)
@@ -51,14 +51,14 @@ returns-5 c =
     let sized = c .before .before .before in
     let named = sized .before .before .before .before .before in
     let start = named .before .before .before .args in
-    let size = sized .before .before .number in
+    let size = sized .before .before .from-two-bytes in
     let most = sized .before .most in
     let bytes = c .before .all-printable in
     field-read (start .s .now) (start .at) (start .tag) (named .if1 .left) (size .result) (most .result) (size .ensures) (most .ensures) (sized .if3 .left)
     (bytes .result) (bytes .ensures) (c .if4 .left)
 
-pub read-field-spec : {M : Type 1} → statement M
-read-field-spec =
+pub read-tag-spec : {M : Type 1} → statement M
+read-tag-spec =
     tie.close
     (tie.spec
     (λ c. search needs)
