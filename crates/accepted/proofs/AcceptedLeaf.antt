@@ -18,7 +18,7 @@ use Rattle.parts.specs.Split.{split, piece}
 use Rattle.parts.specs.Descent.{Step, cut, part, inRepetition}
 use Rattle.frame.specs.Segments.{segments, name, named, ofName, occurrence, fewer, field, unsplit}
 use Rattle.profile.specs.Table.{Table, Leaf, Rule, Usage, R, ofType, among, isListed, rulesOf, leavesOf}
-use Rattle.checks.specs.Place.{place, leafAt, leafOf, repetitions}
+use Rattle.checks.specs.Place.{place, leafAt, leafIn, repetitions}
 use Rattle.checks.specs.View.{Entry, Repetition, Field, Segment, entriesOf, isFilled, filledFrom, namedIn, fieldSeen, segmentSeen, listedSegments, view}
 use Rattle.checks.specs.Fault.{Check, leafChecks, repetitionChecks, startsFilled, firstFilled, isRequired, fieldChecks, count, walk, checks, accepted, verdict}
 use Rattle.parts.proofs.Members.{append-all, keep-step, keep-all, some-map, map-all, flatMap-all, piece-all, member-all, no-piece}
@@ -137,26 +137,26 @@ module _ (q : Marks) (read : Text → List Entry) where
 -- 4. The leaves of a repetition
 module _ (q : Marks) (whole : Bool) where
   abbrev LeafKept : Text → Leaf → Type 0
-  LeafKept t l = Kept q l (leafOf q whole t (l .component) (l .subcomponent))
+  LeafKept t l = Kept q l (leafIn q whole t (l .component) (l .subcomponent))
 
   none-kept : (t : Text) (ls : List Leaf) → isFilled (entriesOf q whole ls t) ≡ false → All (LeafKept t) ls
   unfolding some
   none-kept t [] e = tt
   none-kept t (l ∷ ls) e =
-      let x = leafOf q whole t (l .component) (l .subcomponent) in
+      let x = leafIn q whole t (l .component) (l .subcomponent) in
       let h = or-none (not (empty x)) (isFilled (entriesOf q whole ls t)) e in
       (empty-kept q l x (tests.not-false (empty x) (h .0)), none-kept t ls (h .1))
 
   entries-all : (t : Text) (ls : List Leaf) → EntriesJudged q (entriesOf q whole ls t)
-      → All (λ (l : Leaf). Judged q l (leafOf q whole t (l .component) (l .subcomponent))) ls
+      → All (λ (l : Leaf). Judged q l (leafIn q whole t (l .component) (l .subcomponent))) ls
   entries-all t ls a =
       map-all (λ (e : Entry). Judged q (e .leaf) (e .text))
-      (λ (l : Leaf). record { leaf = l; text = leafOf q whole t (l .component) (l .subcomponent) }) ls a
+      (λ (l : Leaf). record { leaf = l; text = leafIn q whole t (l .component) (l .subcomponent) }) ls a
 
   leaves-kept : (t : Text) (ls : List Leaf) (b : Bool) → isFilled (entriesOf q whole ls t) ≡ b → (b ≡ true → EntriesJudged q (entriesOf q whole ls t))
       → All (LeafKept t) ls
   leaves-kept t ls true e a =
-      all-map (λ (l : Leaf). Judged q l (leafOf q whole t (l .component) (l .subcomponent))) (LeafKept t) (λ l k. k .0) ls (entries-all t ls (a refl))
+      all-map (λ (l : Leaf). Judged q l (leafIn q whole t (l .component) (l .subcomponent))) (LeafKept t) (λ l k. k .0) ls (entries-all t ls (a refl))
   leaves-kept t ls false e a = none-kept t ls e
 
   -- nothing stands in no bytes
@@ -173,7 +173,7 @@ module _ (q : Marks) (whole : Bool) where
   nil-kept : (ls : List Leaf) → All (LeafKept []) ls
   nil-kept [] = tt
   nil-kept (l ∷ ls) =
-      (empty-kept q l (leafOf q whole [] (l .component) (l .subcomponent)) (rw (part-empty (inRepetition q (l .component) (l .subcomponent)))), nil-kept ls)
+      (empty-kept q l (leafIn q whole [] (l .component) (l .subcomponent)) (rw (part-empty (inRepetition q (l .component) (l .subcomponent)))), nil-kept ls)
 
   -- the pieces of a field of no bytes, and of any other
   pieces-same : (x : Text) (r : ℕ) → piece r (cut whole (q .repetition) x) ≡ piece r (pick (empty x) [] (cut whole (q .repetition) x))
@@ -213,10 +213,10 @@ module _ (T : Table) (q : Marks) (s : Text) (u : Rule) where
   ts = repetitions q s f
 
   abbrev textOf : ℕ → Leaf → Text
-  textOf r l = leafOf q whole (piece r ts) (l .component) (l .subcomponent)
+  textOf r l = leafIn q whole (piece r ts) (l .component) (l .subcomponent)
 
   -- a leaf of the field is that leaf of the repetition
-  leaf-in : (r c b : ℕ) → leafAt q s f r c b ≡ leafOf q whole (piece r ts) c b
+  leaf-in : (r c b : ℕ) → leafAt q s f r c b ≡ leafIn q whole (piece r ts) c b
   unfolding leafAt repetitions part
   leaf-in r c b = ap (λ (t : Text). part whole (inRepetition q c b) t) (pieces-same q whole (field q s f) r)
 

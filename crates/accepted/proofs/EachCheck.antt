@@ -11,7 +11,7 @@ use Rattle.text.proofs.Lists.{All, all-map, all-append, all-keep, every-all, al
 use Rattle.frame.specs.Segments.{name, unsplit}
 use Rattle.profile.specs.Table.{Table, Leaf, Listed, leaf, named-by, Row, Type-leaves, typeLeaves, Rule, rulesOf, leavesIn, leavesOf}
 use Rattle.profile.proofs.Gathered.{gathered-all}
-use Rattle.checks.specs.Place.{Place, place, leafOf, repetitions}
+use Rattle.checks.specs.Place.{Place, place, leafIn, repetitions}
 use Rattle.checks.specs.View.{Entry, Repetition, Field, Segment, entriesOf, isFilled, filledFrom, namedIn, fieldSeen, segmentSeen, listedSegments, view}
 use Rattle.checks.specs.Fault.{Check, leafChecks, repetitionChecks, fieldChecks, count, walk, checks, Verdict, accepted, fault, firstBroken, verdict}
 
@@ -107,7 +107,7 @@ module _ (F : ℕ → Bool) (L : Leaf → Bool) where
           h .1,
           filled-pass 1 (entriesOf q w ls) (repetitions q s (u .field))
               (λ t.
-              all-made-of (λ l. L l ≡ true) EntryPasses (λ (l : Leaf). record { leaf = l; text = leafOf q w t (l .component) (l .subcomponent) })
+              all-made-of (λ l. L l ≡ true) EntryPasses (λ (l : Leaf). record { leaf = l; text = leafIn q w t (l .component) (l .subcomponent) })
               (λ l e. e) ls (leaves-pass (namedIn q s) u h)),
         )
 

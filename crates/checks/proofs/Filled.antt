@@ -10,7 +10,7 @@ use Rattle.text.specs.declared.marks.Marks.{Marks}
 use Rattle.parts.specs.Descent.{inRepetition}
 use Rattle.parts.proofs.Descent.{part-nil}
 use Rattle.profile.specs.Table.{Leaf}
-use Rattle.checks.specs.Place.{leafOf}
+use Rattle.checks.specs.Place.{leafIn}
 use Rattle.checks.specs.View.{Entry, Repetition, entriesOf, isFilled, filledFrom}
 use Rattle.checks.specs.Fault.{startsFilled}
 
@@ -28,7 +28,7 @@ late-none k read (t ∷ ts) h =
     late-step (isFilled (read t)) k (read t) (filledFrom (suc k) read ts) h (late-none (suc k) read ts (omega arith))
 
 -- no leaf stands in no bytes, and none behind the last component
-pub no-leaf : (q : Marks) (c b : ℕ) → leafOf q false [] c b ≡ []
+pub no-leaf : (q : Marks) (c b : ℕ) → leafIn q false [] c b ≡ []
 no-leaf q c b = part-nil (inRepetition q c b)
 
 pub none-filled : (q : Marks) (ls : List Leaf) → isFilled (entriesOf q false ls []) ≡ false

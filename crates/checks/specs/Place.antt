@@ -43,8 +43,8 @@ unfoldable pub repetitions : Marks → Text → ℕ → List Text
 repetitions q s f = pick (empty (field q s f)) [] (cut (unsplit s f) (q .repetition) (field q s f))
 
 -- a leaf of one of these repetitions
-abbrev pub leafOf : Marks → Bool → Text → ℕ → ℕ → Text
-leafOf q whole t c b = part whole (inRepetition q c b) t
+abbrev pub leafIn : Marks → Bool → Text → ℕ → ℕ → Text
+leafIn q whole t c b = part whole (inRepetition q c b) t
 
 -- THE TEXT at a place of a message, and where it starts
 unfoldable pub textAt : Text → Place → Text

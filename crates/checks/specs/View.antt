@@ -10,7 +10,7 @@ use Rattle.text.specs.declared.marks.Marks.{Marks}
 use Rattle.text.specs.Marks.{marksOf}
 use Rattle.frame.specs.Segments.{segments, name, unsplit}
 use Rattle.profile.specs.Table.{Table, Leaf, Rule, isListed, rulesOf, leavesOf}
-use Rattle.checks.specs.Place.{leafAt, leafOf, repetitions}
+use Rattle.checks.specs.Place.{leafAt, leafIn, repetitions}
 
 -- a listed leaf, and what stands there
 pub record Entry : Type 0 where
@@ -33,7 +33,7 @@ pub record Segment : Type 0 where
 -- the listed leaves of a repetition
 abbrev pub entriesOf : Marks → Bool → List Leaf → Text → List Entry
 entriesOf q whole ls t =
-    map (λ (l : Leaf). record { leaf = l; text = leafOf q whole t (l .component) (l .subcomponent) }) ls
+    map (λ (l : Leaf). record { leaf = l; text = leafIn q whole t (l .component) (l .subcomponent) }) ls
 
 -- filled: some listed leaf is not Empty
 abbrev pub isFilled : List Entry → Bool

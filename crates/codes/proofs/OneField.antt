@@ -33,10 +33,10 @@ field-le f [] = omega arith
 field-le f (r ∷ rs) = field-le-step (inField f r) (ofField f rs) (length rs) (field-le f rs)
 
 -- a row further: it is of the field
-module _ (t : List ℕ) (at end f : ℕ) where
-  field-on : rowSize ≤ end - at → getD t (at + fieldColumn) 0 ≡ f → ofField f (rowsWithin at end t) ≡ suc (ofField f (rowsWithin (at + rowSize) end t))
+module _ (table : List ℕ) (at end f : ℕ) where
+  field-on : rowSize ≤ end - at → getD table (at + fieldColumn) 0 ≡ f → ofField f (rowsWithin at end table) ≡ suc (ofField f (rowsWithin (at + rowSize) end table))
   unfolding ofField
-  field-on h e = rw (rows-next t at end h, eq-eqb (getD (drop at t) fieldColumn 0) f (getD-drop at t fieldColumn 0 ∙ e))
+  field-on h e = rw (rows-next table at end h, eq-eqb (getD (drop at table) fieldColumn 0) f (getD-drop at table fieldColumn 0 ∙ e))
 
 -- as many as there are in front of the others: each of those is of the field, and the next is not
 counted : (b : Bool) (m n : ℕ) → pick b (suc m) 0 ≡ suc n → (b ≡ true) × (m ≡ n)
@@ -85,189 +85,189 @@ gathered-first n x (y ∷ l) r e =
     ap (gather (rowOf n x)) (gathered-first n y l r (rw s (h .1)))
     ∙ rw (eq-eqb (getD x fieldColumn 0) (getD y fieldColumn 0) (sym s))
 
-pub rule-at : (t : List ℕ) (at e : ℕ) (n : Text) → rule (rowOf n (drop at t)) (map listedOf (rowsWithin at e t)) ≡ ruleAt t at e
-rule-at t at e n = rw (getD-drop at t fieldColumn 0, getD-drop at t usageColumn 0, getD-drop at t repetitionsColumn 0)
+pub rule-at : (table : List ℕ) (at e : ℕ) (n : Text) → rule (rowOf n (drop at table)) (map listedOf (rowsWithin at e table)) ≡ ruleAt table at e
+rule-at table at e n = rw (getD-drop at table fieldColumn 0, getD-drop at table usageColumn 0, getD-drop at table repetitionsColumn 0)
 
 above : (a b : ℕ) → a ≤ b → eqb b a ≡ false → a < b
 above a b h e = omega (arith, eqb-false b a e)
 
 -- the same told by positions: e is where the rows of the first one's field end
-module _ (t : List ℕ) (at end e : ℕ) (some : rowSize ≤ end - at) (inside : end ≤ length t) (is : e ≡ at + ofField (getD t (at + fieldColumn) 0) (rowsWithin at end t) * rowSize) where
+module _ (table : List ℕ) (at end e : ℕ) (some : rowSize ≤ end - at) (inside : end ≤ length table) (is : e ≡ at + ofField (getD table (at + fieldColumn) 0) (rowsWithin at end table) * rowSize) where
   abbrev field : ℕ
-  field = getD t (at + fieldColumn) 0
+  field = getD table (at + fieldColumn) 0
 
   pub field-bounds : (at + rowSize ≤ e) × (e ≤ end)
   field-bounds = (
-    omega (arith, is, field-on t at end field some refl),
-    omega (arith, is, field-le field (rowsWithin at end t), rows-length ((end - at) / rowSize) (drop at t), div-mul-le-self (end - at) rowSize),
+    omega (arith, is, field-on table at end field some refl),
+    omega (arith, is, field-le field (rowsWithin at end table), rows-length ((end - at) / rowSize) (drop at table), div-mul-le-self (end - at) rowSize),
   )
 
   abbrev front : List (List ℕ)
-  front = rowsWithin (at + rowSize) e t
+  front = rowsWithin (at + rowSize) e table
 
   abbrev rest : List (List ℕ)
-  rest = rowsWithin e end t
+  rest = rowsWithin e end table
 
-  front-is : rowsWithin at e t ≡ drop at t ∷ front
-  front-is = rows-next t at e (omega (arith, field-bounds .0))
+  front-is : rowsWithin at e table ≡ drop at table ∷ front
+  front-is = rows-next table at e (omega (arith, field-bounds .0))
 
-  cut : rowsWithin at end t ≡ rowsWithin at e t ++ rest
-  cut = rows-cut t at end e (ofField field (rowsWithin at end t)) is (field-bounds .1)
+  cut : rowsWithin at end table ≡ rowsWithin at e table ++ rest
+  cut = rows-cut table at end e (ofField field (rowsWithin at end table)) is (field-bounds .1)
 
-  rows-are : rowsWithin at end t ≡ drop at t ∷ (front ++ rest)
+  rows-are : rowsWithin at end table ≡ drop at table ∷ (front ++ rest)
   rows-are = cut ∙ ap (λ (l : List (List ℕ)). l ++ rest) front-is
 
-  front-counts : ofField field (drop at t ∷ (front ++ rest)) ≡ suc (length front)
+  front-counts : ofField field (drop at table ∷ (front ++ rest)) ≡ suc (length front)
   front-counts =
       ap (ofField field) (sym rows-are)
-      ∙ sym (front-length t at end e (ofField field (rowsWithin at end t)) is (field-bounds .1))
+      ∙ sym (front-length table at end e (ofField field (rowsWithin at end table)) is (field-bounds .1))
       ∙ ap length front-is
 
-  stops : ofField (getD (drop at t) fieldColumn 0) (front ++ rest) ≡ length front
+  stops : ofField (getD (drop at table) fieldColumn 0) (front ++ rest) ≡ length front
   unfolding ofField
   stops =
-      rw (getD-drop at t fieldColumn 0)
-      (counted (inField field (drop at t)) (ofField field (front ++ rest)) (length front) front-counts .1)
+      rw (getD-drop at table fieldColumn 0)
+      (counted (inField field (drop at table)) (ofField field (front ++ rest)) (length front) front-counts .1)
 
   pub rules-first : (n : Text)
-      → gathered (map (rowOf n) (rowsWithin at end t)) ≡ rule (rowOf n (drop at t)) (map listedOf (rowsWithin at e t)) ∷ gathered (map (rowOf n) (rowsWithin e end t))
+      → gathered (map (rowOf n) (rowsWithin at end table)) ≡ rule (rowOf n (drop at table)) (map listedOf (rowsWithin at e table)) ∷ gathered (map (rowOf n) (rowsWithin e end table))
   rules-first n =
       ap (λ (l : List (List ℕ)). gathered (map (rowOf n) l)) rows-are
-      ∙ gathered-first n (drop at t) front rest stops
-      ∙ ap (λ (l : List (List ℕ)). rule (rowOf n (drop at t)) (map listedOf l) ∷ gathered (map (rowOf n) rest)) (sym front-is)
+      ∙ gathered-first n (drop at table) front rest stops
+      ∙ ap (λ (l : List (List ℕ)). rule (rowOf n (drop at table)) (map listedOf l) ∷ gathered (map (rowOf n) rest)) (sym front-is)
 
-  pub rules-at : (n : Text) → gathered (map (rowOf n) (rowsWithin at end t)) ≡ ruleAt t at e ∷ gathered (map (rowOf n) (rowsWithin e end t))
-  rules-at n = rules-first n ∙ ap (λ (u : Rule). u ∷ gathered (map (rowOf n) rest)) (rule-at t at e n)
+  pub rules-at : (n : Text) → gathered (map (rowOf n) (rowsWithin at end table)) ≡ ruleAt table at e ∷ gathered (map (rowOf n) (rowsWithin e end table))
+  rules-at n = rules-first n ∙ ap (λ (u : Rule). u ∷ gathered (map (rowOf n) rest)) (rule-at table at e n)
 
   -- what the rule of the table says of them
-  pub ordered-rest : Ordered (rowsWithin at end t) → Ordered (rowsWithin e end t)
-  ordered-rest o = stretch.ordered-right (rowsWithin at e t) rest (subst Ordered cut o)
+  pub ordered-rest : Ordered (rowsWithin at end table) → Ordered (rowsWithin e end table)
+  ordered-rest o = stretch.ordered-right (rowsWithin at e table) rest (subst Ordered cut o)
 
-  pub ordered-front : Ordered (rowsWithin at end t) → Ordered (rowsWithin at e t)
-  ordered-front o = stretch.ordered-left (rowsWithin at e t) rest (subst Ordered cut o)
+  pub ordered-front : Ordered (rowsWithin at end table) → Ordered (rowsWithin at e table)
+  ordered-front o = stretch.ordered-left (rowsWithin at e table) rest (subst Ordered cut o)
 
-  front-field : every (inField (getD (drop at t) fieldColumn 0)) (drop at t ∷ front) ≡ true
+  front-field : every (inField (getD (drop at table) fieldColumn 0)) (drop at table ∷ front) ≡ true
   unfolding every
   front-field =
-      and-both (inField (getD (drop at t) fieldColumn 0) (drop at t)) (every (inField (getD (drop at t) fieldColumn 0)) front)
-      (eq-eqb (getD (drop at t) fieldColumn 0) (getD (drop at t) fieldColumn 0) refl) (field-front (getD (drop at t) fieldColumn 0) front rest stops)
+      and-both (inField (getD (drop at table) fieldColumn 0) (drop at table)) (every (inField (getD (drop at table) fieldColumn 0)) front)
+      (eq-eqb (getD (drop at table) fieldColumn 0) (getD (drop at table) fieldColumn 0) refl) (field-front (getD (drop at table) fieldColumn 0) front rest stops)
 
-  first-proper : Ordered (rowsWithin at end t) → Proper (drop at t)
+  first-proper : Ordered (rowsWithin at end table) → Proper (drop at table)
   unfolding every
   first-proper o =
       let p = subst (λ (l : List (List ℕ)). every isProper l ≡ true) rows-are (o .proper) in
-      proper-row (drop at t) (both (isProper (drop at t)) (every isProper (front ++ rest)) p .0)
+      proper-row (drop at table) (both (isProper (drop at table)) (every isProper (front ++ rest)) p .0)
 
   -- where the next field's rows begin, and what is sure to pass
-  guides-at : guides at (rowsWithin at end t) ≡ true → guides at (drop at t ∷ (front ++ rest)) ≡ true
+  guides-at : guides at (rowsWithin at end table) ≡ true → guides at (drop at table ∷ (front ++ rest)) ≡ true
   guides-at g = subst (λ (l : List (List ℕ)). guides at l ≡ true) rows-are g
 
-  pub guided-rest : guides at (rowsWithin at end t) ≡ true → guides e (rowsWithin e end t) ≡ true
+  pub guided-rest : guides at (rowsWithin at end table) ≡ true → guides e (rowsWithin e end table) ≡ true
   guided-rest g =
-      let n : at + length (rowsWithin at e t) * rowSize ≡ e = ap (λ (i : ℕ). at + i * rowSize) (front-length t at end e (ofField field (rowsWithin at end t)) is (field-bounds .1)) ∙ sym is in
-      subst (λ (i : ℕ). guides i rest ≡ true) n (guides-behind at (rowsWithin at e t) rest (subst (λ (l : List (List ℕ)). guides at l ≡ true) cut g))
+      let n : at + length (rowsWithin at e table) * rowSize ≡ e = ap (λ (i : ℕ). at + i * rowSize) (front-length table at end e (ofField field (rowsWithin at end table)) is (field-bounds .1)) ∙ sym is in
+      subst (λ (i : ℕ). guides i rest ≡ true) n (guides-behind at (rowsWithin at e table) rest (subst (λ (l : List (List ℕ)). guides at l ≡ true) cut g))
 
-  field-sure : guides at (rowsWithin at end t) ≡ true → 1 ≤ getD (drop at t) sureColumn 0 → SureUpTo (getD (drop at t) sureColumn 0) (map leafOf (rowsWithin at e t))
+  field-sure : guides at (rowsWithin at end table) ≡ true → 1 ≤ getD (drop at table) sureColumn 0 → SureUpTo (getD (drop at table) sureColumn 0) (map leafOf (rowsWithin at e table))
   field-sure g some =
-      let n : ofField (getD (drop at t) fieldColumn 0) (drop at t ∷ (front ++ rest)) ≡ length (drop at t ∷ front) = rw (getD-drop at t fieldColumn 0) front-counts in
+      let n : ofField (getD (drop at table) fieldColumn 0) (drop at table ∷ (front ++ rest)) ≡ length (drop at table ∷ front) = rw (getD-drop at table fieldColumn 0) front-counts in
       rw front-is
-      (sure-leaves (drop at t) front (sure-rows (drop at t) (front ++ rest) (drop at t ∷ front) rest (guides-first at (drop at t) (front ++ rest) (guides-at g) .1) refl n some))
+      (sure-leaves (drop at table) front (sure-rows (drop at table) (front ++ rest) (drop at table ∷ front) rest (guides-first at (drop at table) (front ++ rest) (guides-at g) .1) refl n some))
 
   module _ (k : ℕ) where
-    of-all : areOf k (rowsWithin at end t) ≡ true → areOf k (drop at t ∷ (front ++ rest)) ≡ true
+    of-all : areOf k (rowsWithin at end table) ≡ true → areOf k (drop at table ∷ (front ++ rest)) ≡ true
     of-all a = subst (λ (l : List (List ℕ)). areOf k l ≡ true) rows-are a
 
-    pub of-rest : areOf k (rowsWithin at end t) ≡ true → areOf k (rowsWithin e end t) ≡ true
-    of-rest a = every-right (λ (r : List ℕ). eqb (getD r segmentColumn 0) k) (rowsWithin at e t) rest (subst (λ (l : List (List ℕ)). areOf k l ≡ true) cut a)
+    pub of-rest : areOf k (rowsWithin at end table) ≡ true → areOf k (rowsWithin e end table) ≡ true
+    of-rest a = every-right (λ (r : List ℕ). eqb (getD r segmentColumn 0) k) (rowsWithin at e table) rest (subst (λ (l : List (List ℕ)). areOf k l ≡ true) cut a)
 
-    segment-is : areOf k (rowsWithin at end t) ≡ true → getD (drop at t) segmentColumn 0 ≡ k
+    segment-is : areOf k (rowsWithin at end table) ≡ true → getD (drop at table) segmentColumn 0 ≡ k
     unfolding every
-    segment-is a = eqb-true (getD (drop at t) segmentColumn 0) k (both (eqb (getD (drop at t) segmentColumn 0) k) (areOf k (front ++ rest)) (of-all a) .0)
+    segment-is a = eqb-true (getD (drop at table) segmentColumn 0) k (both (eqb (getD (drop at table) segmentColumn 0) k) (areOf k (front ++ rest)) (of-all a) .0)
 
-    front-of : areOf k (rowsWithin at end t) ≡ true → areOf k (drop at t ∷ front) ≡ true
-    front-of a = every-left (λ (r : List ℕ). eqb (getD r segmentColumn 0) k) (drop at t ∷ front) rest (of-all a)
+    front-of : areOf k (rowsWithin at end table) ≡ true → areOf k (drop at table ∷ front) ≡ true
+    front-of a = every-left (λ (r : List ℕ). eqb (getD r segmentColumn 0) k) (drop at table ∷ front) rest (of-all a)
 
-    pub field-is : Ordered (rowsWithin at end t) → areOf k (rowsWithin at end t) ≡ true → guides at (rowsWithin at end t) ≡ true → IsField t k at e
+    pub field-is : Ordered (rowsWithin at end table) → areOf k (rowsWithin at end table) ≡ true → guides at (rowsWithin at end table) ≡ true → IsField table k at e
     field-is o a g =
         record {
           some = field-bounds .0;
           inside = omega (arith, field-bounds .1);
           ordered = ordered-front o;
-          one = rw front-is (one-field (drop at t) k (getD (drop at t) fieldColumn 0) (segment-is a) refl (drop at t ∷ front) (front-of a) front-field);
+          one = rw front-is (one-field (drop at table) k (getD (drop at table) fieldColumn 0) (segment-is a) refl (drop at table ∷ front) (front-of a) front-field);
           segment = segment-is a;
           sure = field-sure g;
         }
 
     -- a field behind has a higher number
-    pub field-later : Ordered (rowsWithin at end t) → areOf k (rowsWithin at end t) ≡ true → rowSize ≤ end - e → getD t (at + fieldColumn) 0 < getD t (e + fieldColumn) 0
+    pub field-later : Ordered (rowsWithin at end table) → areOf k (rowsWithin at end table) ≡ true → rowSize ≤ end - e → getD table (at + fieldColumn) 0 < getD table (e + fieldColumn) 0
     unfolding every
     field-later o a more =
-        let x = drop at t in
-        let y = drop e t in
-        let later = rowsWithin (e + rowSize) end t in
-        let next : rest ≡ y ∷ later = rows-next t e end more in
-        let all : rowsWithin at end t ≡ x ∷ (front ++ (y ∷ later)) = rows-are ∙ ap (λ (l : List (List ℕ)). x ∷ (front ++ l)) next in
+        let x = drop at table in
+        let y = drop e table in
+        let later = rowsWithin (e + rowSize) end table in
+        let next : rest ≡ y ∷ later = rows-next table e end more in
+        let all : rowsWithin at end table ≡ x ∷ (front ++ (y ∷ later)) = rows-are ∙ ap (λ (l : List (List ℕ)). x ∷ (front ++ l)) next in
         let p = both (isProper y) (every isProper later) (subst (λ (l : List (List ℕ)). every isProper l ≡ true) next (ordered-rest o .proper)) in
         let b = both (eqb (getD y segmentColumn 0) k) (areOf k later) (subst (λ (l : List (List ℕ)). areOf k l ≡ true) next (of-rest a)) in
         let l = rises-above x y front later (subst (λ (l : List (List ℕ)). rises l ≡ true) all (o .order)) in
         let s = segment-is a ∙ sym (eqb-true (getD y segmentColumn 0) k (b .0)) in
         let n = field-next (getD x fieldColumn 0) front y later (subst (λ (l : List (List ℕ)). ofField (getD x fieldColumn 0) (front ++ l) ≡ length front) next stops) in
         let h = field-rises x y (first-proper o) (proper-row y (p .0)) l s in
-        rw (← getD-drop at t fieldColumn 0, ← getD-drop e t fieldColumn 0) (above (getD x fieldColumn 0) (getD y fieldColumn 0) h n)
+        rw (← getD-drop at table fieldColumn 0, ← getD-drop e table fieldColumn 0) (above (getD x fieldColumn 0) (getD y fieldColumn 0) h n)
 
 -- a row says where the rows of the next field begin
-pub next-begins : (t : List ℕ) (at end : ℕ) → rowSize ≤ end - at → guides at (rowsWithin at end t) ≡ true
-    → getD t (at + nextColumn) 0 ≡ at + ofField (getD t (at + fieldColumn) 0) (rowsWithin at end t) * rowSize
-next-begins t at end more g =
-    let x = drop at t in
-    let rs = rowsWithin (at + rowSize) end t in
-    let n = rows-next t at end more in
+pub next-begins : (table : List ℕ) (at end : ℕ) → rowSize ≤ end - at → guides at (rowsWithin at end table) ≡ true
+    → getD table (at + nextColumn) 0 ≡ at + ofField (getD table (at + fieldColumn) 0) (rowsWithin at end table) * rowSize
+next-begins table at end more g =
+    let x = drop at table in
+    let rs = rowsWithin (at + rowSize) end table in
+    let n = rows-next table at end more in
     let h = guides-first at x rs (subst (λ (l : List (List ℕ)). guides at l ≡ true) n g) .0 in
-    rw n (rw (getD-drop at t nextColumn 0, getD-drop at t fieldColumn 0) at h)
+    rw n (rw (getD-drop at table nextColumn 0, getD-drop at table fieldColumn 0) at h)
 
 -- ONE FIELD: its number, how often it may repeat, and its leaves
-module _ (t : List ℕ) (k at e : ℕ) (is : IsField t k at e) where
+module _ (table : List ℕ) (k at e : ℕ) (is : IsField table k at e) where
   abbrev others : List (List ℕ)
-  others = rowsWithin (at + rowSize) e t
+  others = rowsWithin (at + rowSize) e table
 
-  rows-of : rowsWithin at e t ≡ drop at t ∷ others
-  rows-of = rows-next t at e (omega (arith, is .some))
+  rows-of : rowsWithin at e table ≡ drop at table ∷ others
+  rows-of = rows-next table at e (omega (arith, is .some))
 
-  ordered-of : Ordered (drop at t ∷ others)
+  ordered-of : Ordered (drop at table ∷ others)
   ordered-of = subst Ordered rows-of (is .ordered)
 
-  one-of : every (λ (r : List ℕ). sameField (drop at t) r) (drop at t ∷ others) ≡ true
-  one-of = subst (λ (l : List (List ℕ)). every (λ (r : List ℕ). sameField (drop at t) r) l ≡ true) rows-of (is .one)
+  one-of : every (λ (r : List ℕ). sameField (drop at table) r) (drop at table ∷ others) ≡ true
+  one-of = subst (λ (l : List (List ℕ)). every (λ (r : List ℕ). sameField (drop at table) r) l ≡ true) rows-of (is .one)
 
-  proper-of : Proper (drop at t)
+  proper-of : Proper (drop at table)
   unfolding every
-  proper-of = proper-row (drop at t) (both (isProper (drop at t)) (every isProper others) (ordered-of .proper) .0)
+  proper-of = proper-row (drop at table) (both (isProper (drop at table)) (every isProper others) (ordered-of .proper) .0)
 
-  pub field-low : firstField k ≤ getD t (at + fieldColumn) 0
-  field-low = rw (is .segment, getD-drop at t fieldColumn 0) at (proper-of .field)
+  pub field-low : firstField k ≤ getD table (at + fieldColumn) 0
+  field-low = rw (is .segment, getD-drop at table fieldColumn 0) at (proper-of .field)
 
-  pub field-most : 1 ≤ getD t (at + repetitionsColumn) 0
-  field-most = rw (getD-drop at t repetitionsColumn 0) at (proper-of .repeats)
+  pub field-most : 1 ≤ getD table (at + repetitionsColumn) 0
+  field-most = rw (getD-drop at table repetitionsColumn 0) at (proper-of .repeats)
 
-  pub field-namer : 10 ≤ getD t (at + typeColumn) 0 → firstNamer k ≤ getD t (at + typeColumn) 0
-  field-namer h = rw (is .segment, getD-drop at t typeColumn 0) at (proper-of .named (rw (getD-drop at t typeColumn 0) h))
+  pub field-namer : 10 ≤ getD table (at + typeColumn) 0 → firstNamer k ≤ getD table (at + typeColumn) 0
+  field-namer h = rw (is .segment, getD-drop at table typeColumn 0) at (proper-of .named (rw (getD-drop at table typeColumn 0) h))
 
-  pub leaves-plain : getD t (at + typeColumn) 0 < 10 → (names : ℕ → Text)
-      → (leavesOf (tableOf t) names (ruleAt t at e) ≡ map leafOf (rowsWithin at e t)) × Ascends 1 (map leafOf (rowsWithin at e t))
+  pub leaves-plain : getD table (at + typeColumn) 0 < 10 → (names : ℕ → Text)
+      → (leavesOf (tableOf table) names (ruleAt table at e) ≡ map leafOf (rowsWithin at e table)) × Ascends 1 (map leafOf (rowsWithin at e table))
   leaves-plain h names =
-      let x = drop at t in
-      let g : getD x typeColumn 0 < 10 = rw (getD-drop at t typeColumn 0) h in
+      let x = drop at table in
+      let g : getD x typeColumn 0 < 10 = rw (getD-drop at table typeColumn 0) h in
       let p = plain-rows x x others one-of (ordered-of .lone) g in (
-        plain-leaves (tableOf t) names (rowsWithin at e t) (subst (λ (l : List (List ℕ)). every isPlain l ≡ true) (sym rows-of) p),
+        plain-leaves (tableOf table) names (rowsWithin at e table) (subst (λ (l : List (List ℕ)). every isPlain l ≡ true) (sym rows-of) p),
         subst (λ (l : List (List ℕ)). Ascends 1 (map leafOf l)) (sym rows-of) (ascending x x 1 others one-of (ordered-of .order) (ordered-of .proper) p (proper-of .leaf g .0)),
       )
 
-  pub leaves-named : 10 ≤ getD t (at + typeColumn) 0 → (names : ℕ → Text)
-      → leavesOf (tableOf t) names (ruleAt t at e) ≡ leavesNamed t (names (getD t (at + typeColumn) 0 - 10))
+  pub leaves-named : 10 ≤ getD table (at + typeColumn) 0 → (names : ℕ → Text)
+      → leavesOf (tableOf table) names (ruleAt table at e) ≡ leavesNamed table (names (getD table (at + typeColumn) 0 - 10))
   leaves-named h names =
-      let x = drop at t in
-      let g : 10 ≤ getD x typeColumn 0 = rw (getD-drop at t typeColumn 0) h in
-      let only : rowsWithin at e t ≡ x ∷ [] = rows-of ∙ ap (λ (l : List (List ℕ)). x ∷ l) (named-alone x x others one-of (ordered-of .lone) g) in
-      ap (λ (l : List (List ℕ)). flatMap (leavesIn (tableOf t) names) (map listedOf l)) only
-      ∙ named-leaf (tableOf t) names x g
-      ∙ ap (λ (f : ℕ). leavesNamed t (names (f - 10))) (getD-drop at t typeColumn 0)
+      let x = drop at table in
+      let g : 10 ≤ getD x typeColumn 0 = rw (getD-drop at table typeColumn 0) h in
+      let only : rowsWithin at e table ≡ x ∷ [] = rows-of ∙ ap (λ (l : List (List ℕ)). x ∷ l) (named-alone x x others one-of (ordered-of .lone) g) in
+      ap (λ (l : List (List ℕ)). flatMap (leavesIn (tableOf table) names) (map listedOf l)) only
+      ∙ named-leaf (tableOf table) names x g
+      ∙ ap (λ (f : ℕ). leavesNamed table (names (f - 10))) (getD-drop at table typeColumn 0)

@@ -16,55 +16,55 @@ eleven n h = div-eq-sub-div {m = rowSize} {n = n} (omega arith) h ∙ add-one ((
 pub fewer : (m n : ℕ) → m ≤ n → m / rowSize ≤ n / rowSize
 fewer m n h = omega (arith, div-mul-le-self m rowSize, lt-div-mul-add {a = n} {b = rowSize} (omega arith))
 
-pub rows-none : (t : List ℕ) (at end : ℕ) → end - at < rowSize → rowsWithin at end t ≡ []
+pub rows-none : (table : List ℕ) (at end : ℕ) → end - at < rowSize → rowsWithin at end table ≡ []
 unfolding rowsFrom
-rows-none t at end h = ap (λ (k : ℕ). rowsFrom k (drop at t)) (div-eq-of-lt h)
+rows-none table at end h = ap (λ (k : ℕ). rowsFrom k (drop at table)) (div-eq-of-lt h)
 
-pub rows-next : (t : List ℕ) (at end : ℕ) → rowSize ≤ end - at → rowsWithin at end t ≡ drop at t ∷ rowsWithin (at + rowSize) end t
+pub rows-next : (table : List ℕ) (at end : ℕ) → rowSize ≤ end - at → rowsWithin at end table ≡ drop at table ∷ rowsWithin (at + rowSize) end table
 unfolding rowsFrom
-rows-next t at end h =
+rows-next table at end h =
     let e : end - at - rowSize ≡ end - (at + rowSize) = omega arith in
-    ap (λ (k : ℕ). rowsFrom k (drop at t)) (eleven (end - at) h ∙ ap (λ (k : ℕ). suc (k / rowSize)) e)
-    ∙ ap (λ (r : List ℕ). drop at t ∷ rowsFrom ((end - (at + rowSize)) / rowSize) r) (drop-drop rowSize at t)
+    ap (λ (k : ℕ). rowsFrom k (drop at table)) (eleven (end - at) h ∙ ap (λ (k : ℕ). suc (k / rowSize)) e)
+    ∙ ap (λ (r : List ℕ). drop at table ∷ rowsFrom ((end - (at + rowSize)) / rowSize) r) (drop-drop rowSize at table)
 
-pub rows-length : (n : ℕ) (t : List ℕ) → length (rowsFrom n t) ≡ n
+pub rows-length : (n : ℕ) (table : List ℕ) → length (rowsFrom n table) ≡ n
 unfolding rowsFrom
-rows-length zero t = refl
-rows-length (suc n) t = ap suc (rows-length n (drop rowSize t))
+rows-length zero table = refl
+rows-length (suc n) table = ap suc (rows-length n (drop rowSize table))
 
 -- some rows, and those behind them
-pub rows-append : (m n : ℕ) (t : List ℕ) → rowsFrom (m + n) t ≡ rowsFrom m t ++ rowsFrom n (drop (m * rowSize) t)
+pub rows-append : (m n : ℕ) (table : List ℕ) → rowsFrom (m + n) table ≡ rowsFrom m table ++ rowsFrom n (drop (m * rowSize) table)
 unfolding rowsFrom
-rows-append zero n t =
+rows-append zero n table =
     let e : 0 + n ≡ n = omega arith in
     rw e
-rows-append (suc m) n t =
+rows-append (suc m) n table =
     let e : suc m + n ≡ suc (m + n) = omega arith in
     let f : rowSize + m * rowSize ≡ suc m * rowSize = omega arith in
-    rw e (ap (λ (l : List (List ℕ)). t ∷ l) (rows-append m n (drop rowSize t) ∙ rw (drop-drop (m * rowSize) rowSize t, f)))
+    rw e (ap (λ (l : List (List ℕ)). table ∷ l) (rows-append m n (drop rowSize table) ∙ rw (drop-drop (m * rowSize) rowSize table, f)))
 
 -- m rows of those from `at` up to `end`: they end at e, and the others begin there
-module _ (t : List ℕ) (at end e m : ℕ) (is : e ≡ at + m * rowSize) (inside : e ≤ end) where
-  pub rows-front : rowsWithin at e t ≡ rowsFrom m (drop at t)
+module _ (table : List ℕ) (at end e m : ℕ) (is : e ≡ at + m * rowSize) (inside : e ≤ end) where
+  pub rows-front : rowsWithin at e table ≡ rowsFrom m (drop at table)
   rows-front =
       let a : e - at ≡ m * rowSize = omega arith in
-      ap (λ (k : ℕ). rowsFrom k (drop at t)) (ap (λ (k : ℕ). k / rowSize) a ∙ mul-div-cancel m {n = rowSize} (omega arith))
+      ap (λ (k : ℕ). rowsFrom k (drop at table)) (ap (λ (k : ℕ). k / rowSize) a ∙ mul-div-cancel m {n = rowSize} (omega arith))
 
-  pub front-length : length (rowsWithin at e t) ≡ m
-  front-length = ap length rows-front ∙ rows-length m (drop at t)
+  pub front-length : length (rowsWithin at e table) ≡ m
+  front-length = ap length rows-front ∙ rows-length m (drop at table)
 
-  pub rows-cut : rowsWithin at end t ≡ rowsWithin at e t ++ rowsWithin e end t
+  pub rows-cut : rowsWithin at end table ≡ rowsWithin at e table ++ rowsWithin e end table
   rows-cut =
       let a : end - at ≡ m * rowSize + (end - e) = omega arith in
       let b : (end - at) / rowSize ≡ m + (end - e) / rowSize = ap (λ (k : ℕ). k / rowSize) a ∙ mul-add-div-right {m = rowSize} (omega arith) m (end - e) in
-      ap (λ (k : ℕ). rowsFrom k (drop at t)) b
-      ∙ rows-append m ((end - e) / rowSize) (drop at t)
-      ∙ rw (rows-front, is, drop-drop (m * rowSize) at t)
+      ap (λ (k : ℕ). rowsFrom k (drop at table)) b
+      ∙ rows-append m ((end - e) / rowSize) (drop at table)
+      ∙ rw (rows-front, is, drop-drop (m * rowSize) at table)
 
 -- the rows up to an earlier end are the first ones
-pub rows-sooner : (t : List ℕ) (at end far : ℕ) → end ≤ far
-    → rowsWithin at far t ≡ rowsWithin at end t ++ rowsFrom ((far - at) / rowSize - (end - at) / rowSize) (drop ((end - at) / rowSize * rowSize) (drop at t))
-rows-sooner t at end far h =
+pub rows-sooner : (table : List ℕ) (at end far : ℕ) → end ≤ far
+    → rowsWithin at far table ≡ rowsWithin at end table ++ rowsFrom ((far - at) / rowSize - (end - at) / rowSize) (drop ((end - at) / rowSize * rowSize) (drop at table))
+rows-sooner table at end far h =
     let n = (end - at) / rowSize in
     let a : (far - at) / rowSize ≡ n + ((far - at) / rowSize - n) = omega (arith, fewer (end - at) (far - at) (omega arith)) in
-    ap (λ (k : ℕ). rowsFrom k (drop at t)) a ∙ rows-append n ((far - at) / rowSize - n) (drop at t)
+    ap (λ (k : ℕ). rowsFrom k (drop at table)) a ∙ rows-append n ((far - at) / rowSize - n) (drop at table)

@@ -99,58 +99,58 @@ every-up f (suc n) a (suc i) h e =
     rw z (every-up f n (suc a) i (omega arith) (both (f a) (every f (upFrom (suc a) n)) e .1))
 
 -- what the rule says of the rows under a number
-pub record Whole (t : List ℕ) (k : ℕ) : Type 0 where
+pub record Whole (table : List ℕ) (k : ℕ) : Type 0 where
   pub count : ℕ
-  pub starts : begin t k ≡ behind + count * rowSize
-  pub some : begin t k + rowSize ≤ begin t (suc k)
-  pub inside : begin t (suc k) ≤ length t
-  pub numbered : areOf k (under k t) ≡ true
-  pub guided : guides (begin t k) (under k t) ≡ true
+  pub starts : begin table k ≡ behind + count * rowSize
+  pub some : begin table k + rowSize ≤ begin table (suc k)
+  pub inside : begin table (suc k) ≤ length table
+  pub numbered : areOf k (under k table) ≡ true
+  pub guided : guides (begin table k) (under k table) ≡ true
 
-whole : (t : List ℕ) (k : ℕ) → isWhole k t ≡ true → Whole t k
-whole t k e =
-    let a = eqb (begin t k) (behind + (begin t k - behind) / rowSize * rowSize) in
-    let b = leb (begin t k + rowSize) (begin t (suc k)) in
-    let c = leb (begin t (suc k)) (length t) in
-    let d = areOf k (under k t) in
-    let g = both (a && b && c && d) (guides (begin t k) (under k t)) e in
+whole : (table : List ℕ) (k : ℕ) → isWhole k table ≡ true → Whole table k
+whole table k e =
+    let a = eqb (begin table k) (behind + (begin table k - behind) / rowSize * rowSize) in
+    let b = leb (begin table k + rowSize) (begin table (suc k)) in
+    let c = leb (begin table (suc k)) (length table) in
+    let d = areOf k (under k table) in
+    let g = both (a && b && c && d) (guides (begin table k) (under k table)) e in
     let h = both (a && b && c) d (g .0) in
     let i = both (a && b) c (h .0) in
     let j = both a b (i .0) in
     record {
-      count = (begin t k - behind) / rowSize;
-      starts = eqb-true (begin t k) (behind + (begin t k - behind) / rowSize * rowSize) (j .0);
-      some = leb-true (begin t k + rowSize) (begin t (suc k)) (j .1);
-      inside = leb-true (begin t (suc k)) (length t) (i .1);
+      count = (begin table k - behind) / rowSize;
+      starts = eqb-true (begin table k) (behind + (begin table k - behind) / rowSize * rowSize) (j .0);
+      some = leb-true (begin table k + rowSize) (begin table (suc k)) (j .1);
+      inside = leb-true (begin table (suc k)) (length table) (i .1);
       numbered = h .1;
       guided = g .1;
     }
 
-module _ (t : List ℕ) (s : Sound t) (k : ℕ) (low : 1 ≤ k) (high : k ≤ noType) where
-  pub under-whole : Whole t k
+module _ (table : List ℕ) (s : Sound table) (k : ℕ) (low : 1 ≤ k) (high : k ≤ noType) where
+  pub under-whole : Whole table k
   under-whole =
       let e : 1 + (k - 1) ≡ k = omega arith in
-      whole t k (rw e at (every-up (λ (j : ℕ). isWhole j t) noType 1 (k - 1) (omega arith) (s .index)))
+      whole table k (rw e at (every-up (λ (j : ℕ). isWhole j table) noType 1 (k - 1) (omega arith) (s .index)))
 
-  pub under-ordered : Ordered (under k t)
+  pub under-ordered : Ordered (under k table)
   under-ordered =
       let w = under-whole in
-      let b = begin t k in
-      let e = begin t (suc k) in
-      let n = (length t - b) / rowSize - (e - b) / rowSize in
-      let later : Ordered (rowsWithin b (length t) t) =
-      ordered-right (rowsWithin behind b t) (rowsWithin b (length t) t)
-      (subst Ordered (rows-cut t behind (length t) b (w .count) (w .starts) (omega arith)) (s .rows))
+      let b = begin table k in
+      let e = begin table (suc k) in
+      let n = (length table - b) / rowSize - (e - b) / rowSize in
+      let later : Ordered (rowsWithin b (length table) table) =
+      ordered-right (rowsWithin behind b table) (rowsWithin b (length table) table)
+      (subst Ordered (rows-cut table behind (length table) b (w .count) (w .starts) (omega arith)) (s .rows))
       in
-      ordered-left (under k t) (rowsFrom n (drop ((e - b) / rowSize * rowSize) (drop b t)))
-      (subst Ordered (rows-sooner t b e (length t) (w .inside)) later)
+      ordered-left (under k table) (rowsFrom n (drop ((e - b) / rowSize * rowSize) (drop b table)))
+      (subst Ordered (rows-sooner table b e (length table) (w .inside)) later)
 
-  pub under-inside : k + 1 < length t
+  pub under-inside : k + 1 < length table
   under-inside =
       let w = under-whole in
       omega (arith, w .starts, w .some, w .inside)
 
-  pub under-rows : Under t k (record { start = begin t k; end = begin t (k + 1) })
+  pub under-rows : Under table k (record { start = begin table k; end = begin table (k + 1) })
   under-rows =
       let w = under-whole in
       rw (add-one k)

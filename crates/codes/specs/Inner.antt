@@ -12,7 +12,7 @@ use Rattle.codes.specs.declared.rows.Rows.{Rows}
 
 -- the leaves that rows list
 abbrev pub leavesAt : List ℕ → Rows → List Leaf
-leavesAt t r = map leafOf (rowsWithin (r .start) (r .end) t)
+leavesAt table r = map leafOf (rowsWithin (r .start) (r .end) table)
 
 -- leaves whose components rise from k on, each with a reason from 1 to 12
 pub data Ascends : ℕ → List Leaf → Type 0 where
@@ -24,38 +24,38 @@ pub data SureUpTo : ℕ → List Leaf → Type 0 where
   sure : {n : ℕ} {l : Leaf} {ls : List Leaf} → l .component ≡ 1 → every (takesUpTo n) (l ∷ ls) ≡ true → SureUpTo n (l ∷ ls)
 
 -- rows that are one field's of the segment with that number, in order, and the rule that they are
-pub record IsField (t : List ℕ) (k at end : ℕ) : Type 0 where
+pub record IsField (table : List ℕ) (k at end : ℕ) : Type 0 where
   pub some : at + rowSize ≤ end
-  pub inside : end ≤ length t
-  pub ordered : Ordered (rowsWithin at end t)
-  pub one : every (λ (r : List ℕ). sameField (drop at t) r) (rowsWithin at end t) ≡ true
-  pub segment : getD (drop at t) segmentColumn 0 ≡ k
-  pub sure : 1 ≤ getD (drop at t) sureColumn 0 → SureUpTo (getD (drop at t) sureColumn 0) (map leafOf (rowsWithin at end t))
+  pub inside : end ≤ length table
+  pub ordered : Ordered (rowsWithin at end table)
+  pub one : every (λ (r : List ℕ). sameField (drop at table) r) (rowsWithin at end table) ≡ true
+  pub segment : getD (drop at table) segmentColumn 0 ≡ k
+  pub sure : 1 ≤ getD (drop at table) sureColumn 0 → SureUpTo (getD (drop at table) sureColumn 0) (map leafOf (rowsWithin at end table))
 
 abbrev pub ruleAt : List ℕ → ℕ → ℕ → Rule
-ruleAt t at end =
+ruleAt table at end =
     record {
-      field = getD t (at + fieldColumn) 0;
-      usage = usageOf (getD t (at + usageColumn) 0);
-      repetitions = getD t (at + repetitionsColumn) 0;
-      lists = map listedOf (rowsWithin at end t);
+      field = getD table (at + fieldColumn) 0;
+      usage = usageOf (getD table (at + usageColumn) 0);
+      repetitions = getD table (at + repetitionsColumn) 0;
+      lists = map listedOf (rowsWithin at end table);
     }
 
 -- the rows under a number, and those that list the leaves of the type named so
-pub record Under (t : List ℕ) (k : ℕ) (r : Rows) : Type 0 where
+pub record Under (table : List ℕ) (k : ℕ) (r : Rows) : Type 0 where
   pub some : r .start + rowSize ≤ r .end
-  pub inside : r .end ≤ length t
-  pub rows : rowsWithin (r .start) (r .end) t ≡ under k t
-  pub ordered : Ordered (under k t)
-  pub numbered : areOf k (under k t) ≡ true
-  pub guided : guides (r .start) (under k t) ≡ true
+  pub inside : r .end ≤ length table
+  pub rows : rowsWithin (r .start) (r .end) table ≡ under k table
+  pub ordered : Ordered (under k table)
+  pub numbered : areOf k (under k table) ≡ true
+  pub guided : guides (r .start) (under k table) ≡ true
 
-pub record Lists (t : List ℕ) (r : Rows) (ls : List Leaf) : Type 0 where
+pub record Lists (table : List ℕ) (r : Rows) (ls : List Leaf) : Type 0 where
   pub some : r .start + rowSize ≤ r .end
-  pub inside : r .end ≤ length t
-  pub leaves : leavesAt t r ≡ ls
+  pub inside : r .end ≤ length table
+  pub leaves : leavesAt table r ≡ ls
   pub ascends : Ascends 1 ls
-  pub sure : 1 ≤ getD t (r .start + sureColumn) 0 → SureUpTo (getD t (r .start + sureColumn) 0) ls
+  pub sure : 1 ≤ getD table (r .start + sureColumn) 0 → SureUpTo (getD table (r .start + sureColumn) 0) ls
 
 abbrev pub leavesNamed : List ℕ → Text → List Leaf
-leavesNamed t n = typeLeaves (tableOf t .types) (tableOf t .otherwise) n
+leavesNamed table n = typeLeaves (tableOf table .types) (tableOf table .otherwise) n

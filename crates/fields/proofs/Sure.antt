@@ -18,7 +18,7 @@ use Rattle.parts.proofs.Join.{split-one}
 use Rattle.profile.specs.Table.{Simple, SI, NM, DTM, TM, ST, TX, FT, ID, IS, Codes, any, only, Leaf, ofType, among}
 use Rattle.profile.specs.Order.{takesAny, hasNoList, takesUpTo}
 use Rattle.codes.specs.Inner.{SureUpTo, sure}
-use Rattle.checks.specs.Place.{Place, place, leafOf}
+use Rattle.checks.specs.Place.{Place, place, leafIn}
 use Rattle.checks.specs.View.{Entry, entriesOf}
 use Rattle.checks.specs.Fault.{Check, accepted, leafChecks, repetitionChecks, firstBroken}
 use Rattle.leaves.specs.Judged.{ReadsRepetition}
@@ -100,7 +100,7 @@ module _ (q : Marks) (x : Text) (clean : isFlat q x ≡ true) (filled : 1 ≤ le
   component-flat : (c : ℕ) → isFlat q (component c) ≡ true
   component-flat c = rw (component-is c) at (flat-within q (from c) (from c + length (component c)) x clean)
 
-  leaf-is : (c : ℕ) → leafOf q false x c 1 ≡ component c
+  leaf-is : (c : ℕ) → leafIn q false x c 1 ≡ component c
   unfolding part
   leaf-is c = rw (split-one (q .subcomponent) (component c) (flat q (component c) (component-flat c) .subcomponent))
 
@@ -112,7 +112,7 @@ module _ (q : Marks) (x : Text) (clean : isFlat q x ≡ true) (filled : 1 ≤ le
   starred true c e = rw (e refl, first-filled)
   starred false c e = and-false (empty (component c))
 
-  leaf-good : (l : Leaf) → Takes n l → (p : Place) → firstBroken (leafChecks q p l (leafOf q false x (l .component) (l .subcomponent))) ≡ accepted
+  leaf-good : (l : Leaf) → Takes n l → (p : Place) → firstBroken (leafChecks q p l (leafIn q false x (l .component) (l .subcomponent))) ≡ accepted
   unfolding firstBroken
   leaf-good l t p =
       let c = l .component in
@@ -126,7 +126,7 @@ module _ (q : Marks) (x : Text) (clean : isFlat q x ≡ true) (filled : 1 ≤ le
   leaves-good (l ∷ ls) e m o f k =
       let h = both (takesUpTo n l) (every (takesUpTo n) ls) e in
       let checks : Entry → List Check = λ e. leafChecks q (place m o f k (e .leaf .component) (e .leaf .subcomponent)) (e .leaf) (e .text) in
-      broken-flat checks (record { leaf = l; text = leafOf q false x (l .component) (l .subcomponent) }) (entriesOf q false ls x)
+      broken-flat checks (record { leaf = l; text = leafIn q false x (l .component) (l .subcomponent) }) (entriesOf q false ls x)
       ∙ rw (leaf-good l (takes n l (h .0)) (place m o f k (l .component) (l .subcomponent))) (leaves-good ls (h .1) m o f k)
 
   -- THE REPETITION is filled and breaks nothing

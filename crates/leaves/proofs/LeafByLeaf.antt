@@ -27,7 +27,7 @@ use Rattle.profile.specs.Table.{Leaf}
 use Rattle.profile.specs.Numbers as row
 use Rattle.codes.specs.Inner.{Ascends, next, Lists, leavesAt}
 use Rattle.leaves.specs.declared.repetition.ReadRepetition.{ReadRepetition}
-use Rattle.checks.specs.Place.{Place, place, leafOf}
+use Rattle.checks.specs.Place.{Place, place, leafIn}
 use Rattle.checks.proofs.Filled.{none-filled, no-leaf}
 use Rattle.checks.specs.View.{entriesOf, isFilled}
 use Rattle.checks.specs.Fault.{Verdict, accepted, fault, leafChecks, repetitionChecks, firstBroken}
@@ -50,7 +50,7 @@ module _ (q : Marks) (s : Text) (c : Cursor) (h : IsPiece (q .component) s c) (l
   piece-missing k l =
       length-none (piece k (split (q .component) s)) (c .end) (cursor-past (q .component) s (c .number) (c .start) (c .end) k h l last .ends)
 
-  leaf-missing : (k b : ℕ) → c .number < k → leafOf q false s k b ≡ leafOf q false [] k b
+  leaf-missing : (k b : ℕ) → c .number < k → leafIn q false s k b ≡ leafIn q false [] k b
   unfolding part
   leaf-missing k b l = rw (piece-missing k l) (part-nil (step (q .subcomponent) b ∷ []) ∙ sym (no-leaf q k b))
 
@@ -72,17 +72,17 @@ module _ (q : Marks) (s : Text) where
   left-all all = record { fills = refl; breaks = λ n o f k. refl }
 
   broken-next : (l : Leaf) (ls : List Leaf) (n : Text) (o f k : ℕ) (r : ℕ)
-      → ((p : Place) → told p r ≡ firstBroken (leafChecks q p l (leafOf q false s (l .component) (l .subcomponent))))
+      → ((p : Place) → told p r ≡ firstBroken (leafChecks q p l (leafIn q false s (l .component) (l .subcomponent))))
       → broken q (l ∷ ls) s n o f k ≡ orElse (told (place n o f k (l .component) (l .subcomponent)) r) (broken q ls s n o f k)
   broken-next l ls n o f k r h = rw (h (place n o f k (l .component) (l .subcomponent))) (broken-flat _ _ (entriesOf q false ls s))
 
-  module _ (all ls : List Leaf) (l : Leaf) (found : ReadRepetition) (h : Left q s all (l ∷ ls) found) (here : Bool) (fills : here ≡ not (empty (leafOf q false s (l .component) (l .subcomponent)))) where
+  module _ (all ls : List Leaf) (l : Leaf) (found : ReadRepetition) (h : Left q s all (l ∷ ls) found) (here : Bool) (fills : here ≡ not (empty (leafIn q false s (l .component) (l .subcomponent)))) where
     fills-on : isFilled (entriesOf q false all s) ≡ found .filled || here || isFilled (entriesOf q false ls s)
     unfolding some
-    fills-on = h .fills ∙ rw fills (sym (or-assoc (found .filled) (not (empty (leafOf q false s (l .component) (l .subcomponent)))) (isFilled (entriesOf q false ls s))))
+    fills-on = h .fills ∙ rw fills (sym (or-assoc (found .filled) (not (empty (leafIn q false s (l .component) (l .subcomponent)))) (isFilled (entriesOf q false ls s))))
 
     -- nothing was broken before this leaf
-    pub left-judged : found .reason ≡ 0 → (r : ℕ) → ((p : Place) → told p r ≡ firstBroken (leafChecks q p l (leafOf q false s (l .component) (l .subcomponent))))
+    pub left-judged : found .reason ≡ 0 → (r : ℕ) → ((p : Place) → told p r ≡ firstBroken (leafChecks q p l (leafIn q false s (l .component) (l .subcomponent))))
         → Left q s all ls (record { filled = found .filled || here; reason = r; component = l .component; subcomponent = l .subcomponent })
     left-judged e r g =
         record {
@@ -145,157 +145,157 @@ module _ (q : Marks) (s : Text) (c : Cursor) (h : IsPiece (q .component) s c) (b
   ends : p .end ≡ p .start + length (piece b (split (q .subcomponent) component))
   ends = rw found
 
-  leaf-is : piece b (split (q .subcomponent) component) ≡ leafOf q false s (c .number) b
+  leaf-is : piece b (split (q .subcomponent) component) ≡ leafIn q false s (c .number) b
   unfolding part
   leaf-is = rw (cursor-text (q .component) s c h)
 
-  leaf-text : within (p .start) (p .end) component ≡ leafOf q false s (c .number) b
+  leaf-text : within (p .start) (p .end) component ≡ leafIn q false s (c .number) b
   leaf-text = within-piece component (q .subcomponent) b (p .start) (p .end) (ap (λ (r : Span). r .start) found) ends ∙ leaf-is
 
-  leaf-some : ltb (p .start) (p .end) ≡ not (empty (leafOf q false s (c .number) b))
+  leaf-some : ltb (p .start) (p .end) ≡ not (empty (leafIn q false s (c .number) b))
   leaf-some = rw (← leaf-is) (ltb-some (piece b (split (q .subcomponent) component)) (p .start) (p .end) ends)
 
 -- the leaves of the rows from one place up to another
 abbrev pub leaves : List ℕ → ℕ → ℕ → List Leaf
-leaves t at end = leavesAt t (record { start = at; end = end })
+leaves table at end = leavesAt table (record { start = at; end = end })
 
 -- where the reading stands
-pub record Reading (s : Text) (q : Marks) (t : List ℕ) (first end : ℕ) (found : ReadRepetition) (cursor : Cursor) (at : ℕ) : Type 0 where
+pub record Reading (s : Text) (q : Marks) (table : List ℕ) (first end : ℕ) (found : ReadRepetition) (cursor : Cursor) (at : ℕ) : Type 0 where
   pub order : at ≤ end
-  pub inside : end ≤ length t
+  pub inside : end ≤ length table
   pub piece : IsPiece (q .component) s cursor
-  pub ascends : Ascends (cursor .number) (leaves t at end)
-  pub left : Left q s (leaves t first end) (leaves t at end) found
+  pub ascends : Ascends (cursor .number) (leaves table at end)
+  pub left : Left q s (leaves table first end) (leaves table at end) found
 
 pub rises : (k : ℕ) (l : Leaf) (ls : List Leaf) → Ascends k (l ∷ ls) → (k ≤ l .component) × ((1 ≤ l .reason) × (l .reason ≤ 12)) × Ascends (l .component) ls
 rises k l ls (next a b c r) = (a, (b, c), r)
 
-module _ {s : Text} {q : Marks} {t : List ℕ} where
-  pub reading-first : {r : Rows} {c : Cursor} → Lists t r (leavesAt t r) → IsPiece (q .component) s c × (c .number ≡ 1)
-      → Reading s q t (r .start) (r .end) nothing c (r .start)
+module _ {s : Text} {q : Marks} {table : List ℕ} where
+  pub reading-first : {r : Rows} {c : Cursor} → Lists table r (leavesAt table r) → IsPiece (q .component) s c × (c .number ≡ 1)
+      → Reading s q table (r .start) (r .end) nothing c (r .start)
   reading-first {r} h p =
       record {
         order = omega (arith, h .some);
         inside = h .inside;
         piece = p .0;
         ascends = rw (p .1) (h .ascends);
-        left = left-all q s (leavesAt t r);
+        left = left-all q s (leavesAt table r);
       }
 
-  module _ {first end : ℕ} {found : ReadRepetition} {c : Cursor} {at : ℕ} (w : Reading s q t first end found c at) where
-    pub reading-none : end - at < rowSize → ReadsRepetition q (leaves t first end) s found
-    reading-none none = left-none q s (leaves t first end) found (rw (rows-none t at end none) at (w .left))
+  module _ {first end : ℕ} {found : ReadRepetition} {c : Cursor} {at : ℕ} (w : Reading s q table first end found c at) where
+    pub reading-none : end - at < rowSize → ReadsRepetition q (leaves table first end) s found
+    reading-none none = left-none q s (leaves table first end) found (rw (rows-none table at end none) at (w .left))
 
     -- a leaf's row is ahead
     module _ (more : rowSize ≤ end - at) where
       abbrev l : Leaf
-      l = row.leafOf (drop at t)
+      l = row.leafOf (drop at table)
 
       abbrev rest : List Leaf
-      rest = leaves t (at + rowSize) end
+      rest = leaves table (at + rowSize) end
 
       rise : (c .number ≤ l .component) × ((1 ≤ l .reason) × (l .reason ≤ 12)) × Ascends (l .component) rest
-      rise = rises (c .number) l rest (rw (rows-next t at end more) at (w .ascends))
+      rise = rises (c .number) l rest (rw (rows-next table at end more) at (w .ascends))
 
-      left : Left q s (leaves t first end) (l ∷ rest) found
-      left = rw (rows-next t at end more) at (w .left)
+      left : Left q s (leaves table first end) (l ∷ rest) found
+      left = rw (rows-next table at end more) at (w .left)
 
-      pub reading-number : c .number ≤ getD t (at + componentColumn) 0
-      reading-number = rw (← getD-drop at t componentColumn 0) (rise .0)
+      pub reading-number : c .number ≤ getD table (at + componentColumn) 0
+      reading-number = rw (← getD-drop at table componentColumn 0) (rise .0)
 
-      pub reading-reason : (1 ≤ getD t (at + reasonColumn) 0) × (getD t (at + reasonColumn) 0 ≤ 12)
-      reading-reason = rw (← getD-drop at t reasonColumn 0) (rise .1)
+      pub reading-reason : (1 ≤ getD table (at + reasonColumn) 0) × (getD table (at + reasonColumn) 0 ≤ 12)
+      reading-reason = rw (← getD-drop at table reasonColumn 0) (rise .1)
 
       -- its component is behind the last
-      module _ (missing : ltb (c .number) (getD t (at + componentColumn) 0) && leb (length s) (c .end) ≡ true) where
-        none-left : entriesOf q false (leaves t at end) s ≡ entriesOf q false (leaves t at end) []
+      module _ (missing : ltb (c .number) (getD table (at + componentColumn) 0) && leb (length s) (c .end) ≡ true) where
+        none-left : entriesOf q false (leaves table at end) s ≡ entriesOf q false (leaves table at end) []
         none-left =
-            let b = both (ltb (c .number) (getD t (at + componentColumn) 0)) (leb (length s) (c .end)) missing in
+            let b = both (ltb (c .number) (getD table (at + componentColumn) 0)) (leb (length s) (c .end)) missing in
             let last = leb-true (length s) (c .end) (b .1) in
-            let less : c .number < l .component = rw (getD-drop at t componentColumn 0) (ltb-true (c .number) (getD t (at + componentColumn) 0) (b .0)) in
-            rw (rows-next t at end more, leaf-missing q s c (w .piece) last (l .component) (l .subcomponent) less, entries-missing q s c (w .piece) last (l .component) rest (rise .2) less)
+            let less : c .number < l .component = rw (getD-drop at table componentColumn 0) (ltb-true (c .number) (getD table (at + componentColumn) 0) (b .0)) in
+            rw (rows-next table at end more, leaf-missing q s c (w .piece) last (l .component) (l .subcomponent) less, entries-missing q s c (w .piece) last (l .component) rest (rise .2) less)
 
-        pub reading-broken : (found .reason ≡ 0 → ⊥) → ReadsRepetition q (leaves t first end) s found
-        reading-broken e = left-broken q s (leaves t first end) (leaves t at end) found (w .left) none-left e
+        pub reading-broken : (found .reason ≡ 0 → ⊥) → ReadsRepetition q (leaves table first end) s found
+        reading-broken e = left-broken q s (leaves table first end) (leaves table at end) found (w .left) none-left e
 
-        pub reading-missing : found .reason ≡ 0 → (r : ReadRepetition) → ReadsMissing (leaves t at end) (found .filled) r → ReadsRepetition q (leaves t first end) s r
-        reading-missing e r g = left-missing q s (leaves t first end) (leaves t at end) found (w .left) none-left e r (g .handed-on) (g .first q)
+        pub reading-missing : found .reason ≡ 0 → (r : ReadRepetition) → ReadsMissing (leaves table at end) (found .filled) r → ReadsRepetition q (leaves table first end) s r
+        reading-missing e r g = left-missing q s (leaves table first end) (leaves table at end) found (w .left) none-left e r (g .handed-on) (g .first q)
 
       -- its component and its text are found
-      module _ {d : Cursor} (moved : IsPiece (q .component) s d × (d .number ≡ getD t (at + componentColumn) 0)) {p : Span} (found-at : p ≡ span (start (q .subcomponent) (getD t (at + subcomponentColumn) 0) (within (d .start) (d .end) s)) (piece (getD t (at + subcomponentColumn) 0) (split (q .subcomponent) (within (d .start) (d .end) s)))) where
+      module _ {d : Cursor} (moved : IsPiece (q .component) s d × (d .number ≡ getD table (at + componentColumn) 0)) {p : Span} (found-at : p ≡ span (start (q .subcomponent) (getD table (at + subcomponentColumn) 0) (within (d .start) (d .end) s)) (piece (getD table (at + subcomponentColumn) 0) (split (q .subcomponent) (within (d .start) (d .end) s)))) where
         abbrev text : Text
-        text = leafOf q false s (l .component) (l .subcomponent)
+        text = leafIn q false s (l .component) (l .subcomponent)
 
-        same-leaf : leafOf q false s (d .number) (getD t (at + subcomponentColumn) 0) ≡ text
-        same-leaf = rw (moved .1, getD-drop at t componentColumn 0, getD-drop at t subcomponentColumn 0)
+        same-leaf : leafIn q false s (d .number) (getD table (at + subcomponentColumn) 0) ≡ text
+        same-leaf = rw (moved .1, getD-drop at table componentColumn 0, getD-drop at table subcomponentColumn 0)
 
         same-text : within (p .start) (p .end) (within (d .start) (d .end) s) ≡ text
-        same-text = leaf-text q s d (moved .0) (getD t (at + subcomponentColumn) 0) p found-at ∙ same-leaf
+        same-text = leaf-text q s d (moved .0) (getD table (at + subcomponentColumn) 0) p found-at ∙ same-leaf
 
         fills : ltb (p .start) (p .end) ≡ not (empty text)
-        fills = rw (← same-leaf) (leaf-some q s d (moved .0) (getD t (at + subcomponentColumn) 0) p found-at)
+        fills = rw (← same-leaf) (leaf-some q s d (moved .0) (getD table (at + subcomponentColumn) 0) p found-at)
 
         ascends-on : Ascends (d .number) rest
-        ascends-on = rw (moved .1, ← getD-drop at t componentColumn 0) (rise .2)
+        ascends-on = rw (moved .1, ← getD-drop at table componentColumn 0) (rise .2)
 
         pub reading-judged : found .reason ≡ 0 → {r : ℕ}
             → ((x : Place) → told x r ≡ firstBroken (leafChecks q x l (within (p .start) (p .end) (within (d .start) (d .end) s))))
-            → Reading s q t first end (record { filled = found .filled || ltb (p .start) (p .end); reason = r; component = getD t (at + componentColumn) 0; subcomponent = getD t (at + subcomponentColumn) 0 }) d (at + rowSize)
+            → Reading s q table first end (record { filled = found .filled || ltb (p .start) (p .end); reason = r; component = getD table (at + componentColumn) 0; subcomponent = getD table (at + subcomponentColumn) 0 }) d (at + rowSize)
         reading-judged e {r} g =
             record {
               order = omega arith;
               inside = w .inside;
               piece = moved .0;
               ascends = ascends-on;
-              left = rw (← getD-drop at t componentColumn 0, ← getD-drop at t subcomponentColumn 0) (left-judged q s (leaves t first end) rest l found left (ltb (p .start) (p .end)) fills e r (λ x. g x ∙ ap (λ (y : Text). firstBroken (leafChecks q x l y)) same-text));
+              left = rw (← getD-drop at table componentColumn 0, ← getD-drop at table subcomponentColumn 0) (left-judged q s (leaves table first end) rest l found left (ltb (p .start) (p .end)) fills e r (λ x. g x ∙ ap (λ (y : Text). firstBroken (leafChecks q x l y)) same-text));
             }
 
         pub reading-passed : (found .reason ≡ 0 → ⊥)
-            → Reading s q t first end (record { filled = found .filled || ltb (p .start) (p .end); reason = found .reason; component = found .component; subcomponent = found .subcomponent }) d (at + rowSize)
+            → Reading s q table first end (record { filled = found .filled || ltb (p .start) (p .end); reason = found .reason; component = found .component; subcomponent = found .subcomponent }) d (at + rowSize)
         reading-passed e =
             record {
               order = omega arith;
               inside = w .inside;
               piece = moved .0;
               ascends = ascends-on;
-              left = left-passed q s (leaves t first end) rest l found left (ltb (p .start) (p .end)) fills e;
+              left = left-passed q s (leaves table first end) rest l found left (ltb (p .start) (p .end)) fills e;
             }
 
 -- leaves that are all missing: where the search for a required one stands
-pub record Search (t : List ℕ) (first end at : ℕ) : Type 0 where
+pub record Search (table : List ℕ) (first end at : ℕ) : Type 0 where
   pub order : at ≤ end
-  pub inside : end ≤ length t
-  pub left : (q : Marks) → Left q [] (leaves t first end) (leaves t at end) nothing
+  pub inside : end ≤ length table
+  pub left : (q : Marks) → Left q [] (leaves table first end) (leaves table at end) nothing
 
-module _ {t : List ℕ} {first end : ℕ} where
-  pub search-first : (first ≤ end) × (end ≤ length t) → Search t first end first
-  search-first h = record { order = h .0; inside = h .1; left = λ q. left-all q [] (leaves t first end) }
+module _ {table : List ℕ} {first end : ℕ} where
+  pub search-first : (first ≤ end) × (end ≤ length table) → Search table first end first
+  search-first h = record { order = h .0; inside = h .1; left = λ q. left-all q [] (leaves table first end) }
 
-  module _ {at : ℕ} (w : Search t first end at) where
-    pub search-none : end - at < rowSize → (q : Marks) (n : Text) (o f k : ℕ) → accepted ≡ broken q (leaves t first end) [] n o f k
-    search-none none q = left-none q [] (leaves t first end) nothing (rw (rows-none t at end none) at (w .left q)) .first
+  module _ {at : ℕ} (w : Search table first end at) where
+    pub search-none : end - at < rowSize → (q : Marks) (n : Text) (o f k : ℕ) → accepted ≡ broken q (leaves table first end) [] n o f k
+    search-none none q = left-none q [] (leaves table first end) nothing (rw (rows-none table at end none) at (w .left q)) .first
 
     module _ (more : rowSize ≤ end - at) where
-      judged : (q : Marks) (r : ℕ) → ((p : Place) → told p r ≡ firstBroken (leafChecks q p (row.leafOf (drop at t)) []))
-          → Left q [] (leaves t first end) (leaves t (at + rowSize) end) (record { filled = false; reason = r; component = getD (drop at t) componentColumn 0; subcomponent = getD (drop at t) subcomponentColumn 0 })
+      judged : (q : Marks) (r : ℕ) → ((p : Place) → told p r ≡ firstBroken (leafChecks q p (row.leafOf (drop at table)) []))
+          → Left q [] (leaves table first end) (leaves table (at + rowSize) end) (record { filled = false; reason = r; component = getD (drop at table) componentColumn 0; subcomponent = getD (drop at table) subcomponentColumn 0 })
       judged q r g =
-          let l = row.leafOf (drop at t) in
+          let l = row.leafOf (drop at table) in
           let e = no-leaf q (l .component) (l .subcomponent) in
-          left-judged q [] (leaves t first end) (leaves t (at + rowSize) end) l nothing (rw (rows-next t at end more) at (w .left q)) false (rw e) refl r (rw e g)
+          left-judged q [] (leaves table first end) (leaves table (at + rowSize) end) l nothing (rw (rows-next table at end more) at (w .left q)) false (rw e) refl r (rw e g)
 
-      pub search-found : getD t (at + starColumn) 0 ≡ 1 → (q : Marks) (n : Text) (o f k : ℕ)
-          → fault (place n o f k (getD t (at + componentColumn) 0) (getD t (at + subcomponentColumn) 0)) 3 ≡ broken q (leaves t first end) [] n o f k
+      pub search-found : getD table (at + starColumn) 0 ≡ 1 → (q : Marks) (n : Text) (o f k : ℕ)
+          → fault (place n o f k (getD table (at + componentColumn) 0) (getD table (at + subcomponentColumn) 0)) 3 ≡ broken q (leaves table first end) [] n o f k
       search-found e q =
-          rw (← getD-drop at t componentColumn 0, ← getD-drop at t subcomponentColumn 0)
-          (left-broken q [] (leaves t first end) (leaves t (at + rowSize) end) _ (judged q 3 (rule-missing q t at [] refl e)) refl (λ z. omega (arith, z)) .first)
+          rw (← getD-drop at table componentColumn 0, ← getD-drop at table subcomponentColumn 0)
+          (left-broken q [] (leaves table first end) (leaves table (at + rowSize) end) _ (judged q 3 (rule-missing q table at [] refl e)) refl (λ z. omega (arith, z)) .first)
 
-      pub search-on : (getD t (at + starColumn) 0 ≡ 1 → ⊥) → Search t first end (at + rowSize)
+      pub search-on : (getD table (at + starColumn) 0 ≡ 1 → ⊥) → Search table first end (at + rowSize)
       search-on e =
           record {
             order = omega arith;
             inside = w .inside;
             left =
                 λ q.
-                let h = judged q 0 (rule-empty q t at [] refl e) in
+                let h = judged q 0 (rule-empty q table at [] refl e) in
                 record { fills = h .fills; breaks = h .breaks };
           }

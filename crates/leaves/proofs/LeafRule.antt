@@ -24,22 +24,22 @@ unfolding endsOutside
 no-escape q [] e = refl
 no-escape q (b ∷ s) e = absurd (omega arith)
 
-module _ (q : Marks) (t : List ℕ) (at : ℕ) (s : Text) where
+module _ (q : Marks) (table : List ℕ) (at : ℕ) (s : Text) where
   abbrev number : ℕ → ℕ
-  number i = getD t (at + i) 0
+  number i = getD table (at + i) 0
 
   abbrev first : Place → Verdict
-  first p = firstBroken (leafChecks q p (leafOf (drop at t)) s)
+  first p = firstBroken (leafChecks q p (leafOf (drop at table)) s)
 
   module _ (none : length s ≡ 0) where
     pub rule-missing : number starColumn ≡ 1 → (p : Place) → fault p 3 ≡ first p
     unfolding firstBroken
-    rule-missing e p = rw (empty-none s none, getD-drop at t starColumn 0, eq-eqb (number starColumn) 1 e)
+    rule-missing e p = rw (empty-none s none, getD-drop at table starColumn 0, eq-eqb (number starColumn) 1 e)
 
     pub rule-empty : (number starColumn ≡ 1 → ⊥) → (p : Place) → accepted ≡ first p
     unfolding firstBroken
     rule-empty e p =
-        rw (empty-none s none, no-escape q s none, getD-drop at t starColumn 0, ne-eqb (number starColumn) 1 e, le-ltb (getD (drop at t) limitColumn 0) (length s) (omega arith))
+        rw (empty-none s none, no-escape q s none, getD-drop at table starColumn 0, ne-eqb (number starColumn) 1 e, le-ltb (getD (drop at table) limitColumn 0) (length s) (omega arith))
 
   module _ (some : length s ≡ 0 → ⊥) where
     filled : empty s ≡ false
@@ -47,12 +47,12 @@ module _ (q : Marks) (t : List ℕ) (at : ℕ) (s : Text) where
 
     pub rule-long : number limitColumn < length s → (p : Place) → fault p 5 ≡ first p
     unfolding firstBroken
-    rule-long l p = rw (filled, getD-drop at t limitColumn 0, lt-ltb (number limitColumn) (length s) l)
+    rule-long l p = rw (filled, getD-drop at table limitColumn 0, lt-ltb (number limitColumn) (length s) l)
 
     module _ (fits : length s ≤ number limitColumn) where
       short : (p : Place) → first p ≡ firstBroken (check p 6 (badEscape q s) ∷ check p 7 (not (ofType (simpleOf (number typeColumn)) s)) ∷ check p (number reasonColumn) (not (among (codesOf (number listColumn)) s)) ∷ [])
       unfolding firstBroken
-      short p = rw (filled, getD-drop at t limitColumn 0, le-ltb (number limitColumn) (length s) fits, getD-drop at t typeColumn 0, getD-drop at t listColumn 0, getD-drop at t reasonColumn 0)
+      short p = rw (filled, getD-drop at table limitColumn 0, le-ltb (number limitColumn) (length s) fits, getD-drop at table typeColumn 0, getD-drop at table listColumn 0, getD-drop at table reasonColumn 0)
 
       module _ (bad : Bool) (escaped : bad ≡ badEscape q s) where
         pub rule-escape : bad ≡ true → (p : Place) → fault p 6 ≡ first p
@@ -74,8 +74,8 @@ module _ (q : Marks) (t : List ℕ) (at : ℕ) (s : Text) where
             rule-good e p = rw (short p, ← escaped, good, ← is-typed, of-type, ← is-listed, e)
 
 -- a leaf whose type and list take any text
-pub rule-any : (q : Marks) (t : List ℕ) (at : ℕ) (s : Text) → 0 < length s → length s ≤ getD t (at + limitColumn) 0 → 4 < getD t (at + typeColumn) 0 → getD t (at + listColumn) 0 ≡ 0 → badEscape q s ≡ false
-    → (p : Place) → accepted ≡ firstBroken (leafChecks q p (leafOf (drop at t)) s)
-rule-any q t at s some fits type list good p =
-    rule-good q t at s (λ z. omega (arith, z)) fits false (sym good) refl true
-    (other-type (getD t (at + typeColumn) 0) s (λ z. omega (arith, z)) (λ z. omega (arith, z)) (λ z. omega (arith, z)) (λ z. omega (arith, z))) refl true (rw list) refl p
+pub rule-any : (q : Marks) (table : List ℕ) (at : ℕ) (s : Text) → 0 < length s → length s ≤ getD table (at + limitColumn) 0 → 4 < getD table (at + typeColumn) 0 → getD table (at + listColumn) 0 ≡ 0 → badEscape q s ≡ false
+    → (p : Place) → accepted ≡ firstBroken (leafChecks q p (leafOf (drop at table)) s)
+rule-any q table at s some fits type list good p =
+    rule-good q table at s (λ z. omega (arith, z)) fits false (sym good) refl true
+    (other-type (getD table (at + typeColumn) 0) s (λ z. omega (arith, z)) (λ z. omega (arith, z)) (λ z. omega (arith, z)) (λ z. omega (arith, z))) refl true (rw list) refl p

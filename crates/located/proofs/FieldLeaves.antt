@@ -70,37 +70,37 @@ number-step true n h = omega arith
 number-step false n h = omega arith
 
 -- THE ROWS that list a field's leaves: its own
-module _ (q : Marks) (t : List ℕ) (s : Text) (k at end : ℕ) (is : IsField t k at end) where
-  pub lists-own : getD t (at + typeColumn) 0 < 10 → Lists t (record { start = at; end = end }) (leavesOfField q t s at end)
+module _ (q : Marks) (table : List ℕ) (s : Text) (k at end : ℕ) (is : IsField table k at end) where
+  pub lists-own : getD table (at + typeColumn) 0 < 10 → Lists table (record { start = at; end = end }) (leavesOfField q table s at end)
   lists-own l =
-      let w = leaves-plain t k at end is l (namedIn q s) in
+      let w = leaves-plain table k at end is l (namedIn q s) in
       record {
         some = is .some;
         inside = is .inside;
         leaves = sym (w .0);
         ascends = subst (λ (ls : List Leaf). Ascends 1 ls) (sym (w .0)) (w .1);
         sure = λ some.
-            let n = getD-drop at t sureColumn 0 in
+            let n = getD-drop at table sureColumn 0 in
             rw (w .0, ← n) (is .sure (rw n some));
       }
 
   -- those of the type that another field names
-  pub named-from : 10 ≤ getD t (at + typeColumn) 0 → firstField k ≤ getD t (at + typeColumn) 0 - 10
-  named-from l = number-step (eqb k 1) (getD t (at + typeColumn) 0) (field-namer t k at end is l)
+  pub named-from : 10 ≤ getD table (at + typeColumn) 0 → firstField k ≤ getD table (at + typeColumn) 0 - 10
+  named-from l = number-step (eqb k 1) (getD table (at + typeColumn) 0) (field-namer table k at end is l)
 
-  pub lists-named : (l : 10 ≤ getD t (at + typeColumn) 0) (r : Rows) → Lists t r (leavesNamed t (namedIn q s (getD t (at + typeColumn) 0 - 10))) → Lists t r (leavesOfField q t s at end)
-  lists-named l r h = subst (λ (ls : List Leaf). Lists t r ls) (sym (leaves-named t k at end is l (namedIn q s))) h
+  pub lists-named : (l : 10 ≤ getD table (at + typeColumn) 0) (r : Rows) → Lists table r (leavesNamed table (namedIn q s (getD table (at + typeColumn) 0 - 10))) → Lists table r (leavesOfField q table s at end)
+  lists-named l r h = subst (λ (ls : List Leaf). Lists table r ls) (sym (leaves-named table k at end is l (namedIn q s))) h
 
 -- the type that a field names is its first leaf
-module _ (q : Marks) (t : List ℕ) (s : Text) (k : ℕ) (numbered : HasNumber s k) (namer : ℕ) (low : firstField k ≤ namer) where
+module _ (q : Marks) (table : List ℕ) (s : Text) (k : ℕ) (numbered : HasNumber s k) (namer : ℕ) (low : firstField k ≤ namer) where
   named-text : (x : Text) → x ≡ field q s namer → part false (inField q 1 1 1) x ≡ namedIn q s namer
   unfolding leafAt
   named-text x e = rw (field-split s k numbered namer low, ← e)
 
-  pub lists-type : (r : Rows) (x : Text) → x ≡ field q s namer → (e : ℕ) → within 0 e x ≡ part false (inField q 1 1 1) x → Lists t r (leavesNamed t (within 0 e x))
-      → Lists t r (leavesNamed t (namedIn q s namer))
-  lists-type r x f e g h = subst (λ (ls : List Leaf). Lists t r ls) (ap (leavesNamed t) (g ∙ named-text x f)) h
+  pub lists-type : (r : Rows) (x : Text) → x ≡ field q s namer → (e : ℕ) → within 0 e x ≡ part false (inField q 1 1 1) x → Lists table r (leavesNamed table (within 0 e x))
+      → Lists table r (leavesNamed table (namedIn q s namer))
+  lists-type r x f e g h = subst (λ (ls : List Leaf). Lists table r ls) (ap (leavesNamed table) (g ∙ named-text x f)) h
 
 -- rows list what they list
-pub lists-itself : (t : List ℕ) (r : Rows) (ls : List Leaf) → Lists t r ls → Lists t r (leavesAt t r)
-lists-itself t r ls h = subst (λ (l : List Leaf). Lists t r l) (sym (h .leaves)) h
+pub lists-itself : (table : List ℕ) (r : Rows) (ls : List Leaf) → Lists table r ls → Lists table r (leavesAt table r)
+lists-itself table r ls h = subst (λ (l : List Leaf). Lists table r l) (sym (h .leaves)) h

@@ -10,4 +10,4 @@ use Rattle.checks.specs.View.{namedIn}
 
 -- the leaves that a field with those rows lists
 abbrev pub leavesOfField : Marks → List ℕ → Text → ℕ → ℕ → List Leaf
-leavesOfField q t s at end = leavesOf (tableOf t) (namedIn q s) (ruleAt t at end)
+leavesOfField q table s at end = leavesOf (tableOf table) (namedIn q s) (ruleAt table at end)

@@ -11,7 +11,7 @@ use Rattle.text.specs.declared.marks.Marks.{Marks}
 use Rattle.parts.specs.declared.Span.{Span}
 use Rattle.parts.specs.declared.Numbers.{Numbers}
 use Rattle.parts.specs.Split.{split, piece, start}
-use Rattle.parts.specs.Span.{span, markOf, numberOf, stepsFrom}
+use Rattle.parts.specs.Span.{span, markAtDepth, numberAtDepth, stepsFrom}
 use Rattle.parts.specs.Descent.{Step, cut, startIn, part, partStart}
 use Rattle.parts.proofs.Split.{Stands, stands, stands-in, piece-le}
 
@@ -81,12 +81,12 @@ reached-all q w d from to m l h e =
     end-path n = omega arith
 
 module _ (q : Marks) (w : Numbers) (m : Text) (from to : ℕ) (l : from ≤ to) (h : to ≤ length m) (p : Span) where
-  down : (d : ℕ) → p ≡ span (start (markOf q (suc d)) (numberOf w (suc d)) (within from to m)) (piece (numberOf w (suc d)) (split (markOf q (suc d)) (within from to m)))
+  down : (d : ℕ) → p ≡ span (start (markAtDepth q (suc d)) (numberAtDepth w (suc d)) (within from to m)) (piece (numberAtDepth w (suc d)) (split (markAtDepth q (suc d)) (within from to m)))
       → reached q w d (from + p .start) (from + p .end) m ≡ reached q w (suc d) from to m
   unfolding stepsFrom part partStart
   down d found =
-      let sep = markOf q (suc d) in
-      let n = numberOf w (suc d) in
+      let sep = markAtDepth q (suc d) in
+      let n = numberAtDepth w (suc d) in
       let t = within from to m in
       let x = piece n (split sep t) in
       let e : from + p .start ≡ from + start sep n t = ap (λ (s : Span). from + s .start) found in
@@ -94,7 +94,7 @@ module _ (q : Marks) (w : Numbers) (m : Text) (from to : ℕ) (l : from ≤ to) 
       rw (step-text m from to l h sep n p found) (ap (λ (k : ℕ). span k (part false (stepsFrom q w d) x)) f)
 
   pub reached-down : (d sep n : ℕ) → p ≡ span (start sep n (within from to m)) (piece n (split sep (within from to m)))
-      → sep ≡ markOf q d → n ≡ numberOf w d → (d ≡ 0 → ⊥)
+      → sep ≡ markAtDepth q d → n ≡ numberAtDepth w d → (d ≡ 0 → ⊥)
       → (r : Span) → r ≡ reached q w (d - 1) (from + p .start) (from + p .end) m → r ≡ reached q w d from to m
   reached-down zero sep n found s k z r g = absurd (z refl)
   reached-down (suc d) sep n found s k z r g =

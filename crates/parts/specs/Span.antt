@@ -21,13 +21,13 @@ atDepth (suc (suc zero)) f r c b = c
 atDepth (suc (suc (suc zero))) f r c b = r
 atDepth (suc (suc (suc (suc d)))) f r c b = f
 
-abbrev pub markOf : Marks → ℕ → ℕ
-markOf q d = atDepth d (q .field) (q .repetition) (q .component) (q .subcomponent)
+abbrev pub markAtDepth : Marks → ℕ → ℕ
+markAtDepth q d = atDepth d (q .field) (q .repetition) (q .component) (q .subcomponent)
 
-abbrev pub numberOf : Numbers → ℕ → ℕ
-numberOf n d = atDepth d (n .field) (n .repetition) (n .component) (n .subcomponent)
+abbrev pub numberAtDepth : Numbers → ℕ → ℕ
+numberAtDepth n d = atDepth d (n .field) (n .repetition) (n .component) (n .subcomponent)
 
 -- the steps from a depth down to the leaf
 unfoldable pub stepsFrom : Marks → Numbers → ℕ → List Step
 stepsFrom q n zero = []
-stepsFrom q n (suc d) = step (markOf q (suc d)) (numberOf n (suc d)) ∷ stepsFrom q n d
+stepsFrom q n (suc d) = step (markAtDepth q (suc d)) (numberAtDepth n (suc d)) ∷ stepsFrom q n d

@@ -6,7 +6,7 @@ ghost use lib.ListN.{length, drop};
 ghost use Rattle.parts.specs.Split.{split, start, reach};
 ghost use Rattle.parts.specs.Descent.{part, partStart};
 ghost use Rattle.text.specs.Bytes.{within};
-ghost use Rattle.parts.specs.Span.{span, markOf, numberOf, stepsFrom};
+ghost use Rattle.parts.specs.Span.{span, markAtDepth, numberAtDepth, stepsFrom};
 use text::Marks;
 
 // The bytes from start up to, not including, end.
@@ -131,7 +131,7 @@ pub fn piece(t: &[u8], sep: u8, n: u64) -> Span
 
 // What a text of that depth is cut at: 4 a segment's fields, 3 a field, 2 a repetition, 1 a component.
 fn mark(q: Marks, depth: usize) -> u8
-    ensures { λ r. ⌜ r ≡ markOf q depth ⌝ }
+    ensures { λ r. ⌜ r ≡ markAtDepth q depth ⌝ }
 {
     match depth {
         1 => q.subcomponent,
@@ -142,7 +142,7 @@ fn mark(q: Marks, depth: usize) -> u8
 }
 
 fn number(n: Numbers, depth: usize) -> u64
-    ensures { λ r. ⌜ r ≡ numberOf n depth ⌝ }
+    ensures { λ r. ⌜ r ≡ numberAtDepth n depth ⌝ }
 {
     match depth {
         1 => n.subcomponent,

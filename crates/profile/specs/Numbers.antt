@@ -144,59 +144,59 @@ rowOf n r =
 
 -- k rows: the numbers from each of them on
 unfoldable pub rowsFrom : ℕ → List ℕ → List (List ℕ)
-rowsFrom zero t = []
-rowsFrom (suc k) t = t ∷ rowsFrom k (drop rowSize t)
+rowsFrom zero table = []
+rowsFrom (suc k) table = table ∷ rowsFrom k (drop rowSize table)
 
 -- the rows from one place of a table up to another
 abbrev pub rowsWithin : ℕ → ℕ → List ℕ → List (List ℕ)
-rowsWithin at end t = rowsFrom ((end - at) / rowSize) (drop at t)
+rowsWithin at end table = rowsFrom ((end - at) / rowSize) (drop at table)
 
 -- THE INDEX: where the rows under a number begin; the next number's beginning is their end
 abbrev pub begin : List ℕ → ℕ → ℕ
-begin t k = getD t k 0
+begin table k = getD table k 0
 
 abbrev pub under : ℕ → List ℕ → List (List ℕ)
-under k t = rowsWithin (begin t k) (begin t (suc k)) t
+under k table = rowsWithin (begin table k) (begin table (suc k)) table
 
 abbrev pub leavesUnder : ℕ → List ℕ → List Leaf
-leavesUnder k t = map leafOf (under k t)
+leavesUnder k table = map leafOf (under k table)
 
 -- the number of a text in a list, counted from k; another one where it is none of them
 unfoldable pub numberIn : ℕ → ℕ → List Text → Text → ℕ
-numberIn none k [] t = none
-numberIn none k (n ∷ ns) t = pick (same n t) k (numberIn none (suc k) ns t)
+numberIn none k [] text = none
+numberIn none k (n ∷ ns) text = pick (same n text) k (numberIn none (suc k) ns text)
 
 abbrev pub segmentNumber : Text → ℕ
 segmentNumber n = numberIn 0 1 segmentNames n
 
 abbrev pub typeNumber : Text → ℕ
-typeNumber t = numberIn noType firstType value-types t
+typeNumber text = numberIn noType firstType value-types text
 
 -- types with their leaves, the first of them under number k
 unfoldable pub typesFrom : ℕ → List Text → List ℕ → List Type-leaves
-typesFrom k [] t = []
-typesFrom k (n ∷ ns) t = record { type = n; leaves = leavesUnder k t } ∷ typesFrom (suc k) ns t
+typesFrom k [] table = []
+typesFrom k (n ∷ ns) table = record { type = n; leaves = leavesUnder k table } ∷ typesFrom (suc k) ns table
 
 -- segments with their rows, the first of them under number k
 unfoldable pub segmentsFrom : ℕ → List Text → List ℕ → List Row
-segmentsFrom k [] t = []
-segmentsFrom k (n ∷ ns) t = map (rowOf n) (under k t) ++ segmentsFrom (suc k) ns t
+segmentsFrom k [] table = []
+segmentsFrom k (n ∷ ns) table = map (rowOf n) (under k table) ++ segmentsFrom (suc k) ns table
 
 -- THE TABLE that a list of numbers is: its rows and types, and 01's succession and ends
 unfoldable pub tableOf : List ℕ → Table
-tableOf t =
+tableOf table =
     record {
-      rows = segmentsFrom 1 segmentNames t;
-      types = typesFrom firstType value-types t;
-      otherwise = leavesUnder noType t;
+      rows = segmentsFrom 1 segmentNames table;
+      types = typesFrom firstType value-types table;
+      otherwise = leavesUnder noType table;
       succession = succession;
       ends = ends;
     }
 
 -- the numbers are that table
-pub record Tells (t : List ℕ) (T : Table) : Type 0 where
-  pub rows : tableOf t .rows ≡ T .rows
-  pub types : tableOf t .types ≡ T .types
-  pub otherwise : tableOf t .otherwise ≡ T .otherwise
-  pub succession : tableOf t .succession ≡ T .succession
-  pub ends : tableOf t .ends ≡ T .ends
+pub record AreTable (table : List ℕ) (T : Table) : Type 0 where
+  pub rows : tableOf table .rows ≡ T .rows
+  pub types : tableOf table .types ≡ T .types
+  pub otherwise : tableOf table .otherwise ≡ T .otherwise
+  pub succession : tableOf table .succession ≡ T .succession
+  pub ends : tableOf table .ends ≡ T .ends

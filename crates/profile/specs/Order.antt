@@ -109,19 +109,19 @@ abbrev pub behind : ℕ
 behind = noType + 2
 
 abbrev pub allRows : List ℕ → List (List ℕ)
-allRows t = rowsWithin behind (length t) t
+allRows table = rowsWithin behind (length table) table
 
 -- rows of the segment, or of the type, with that number
 abbrev pub areOf : ℕ → List (List ℕ) → Bool
 areOf k rs = every (λ (r : List ℕ). eqb (getD r segmentColumn 0) k) rs
 
 abbrev pub isWhole : ℕ → List ℕ → Bool
-isWhole k t =
-    eqb (begin t k) (behind + (begin t k - behind) / rowSize * rowSize)
-    && leb (begin t k + rowSize) (begin t (suc k))
-    && leb (begin t (suc k)) (length t)
-    && areOf k (under k t)
-    && guides (begin t k) (under k t)
+isWhole k table =
+    eqb (begin table k) (behind + (begin table k - behind) / rowSize * rowSize)
+    && leb (begin table k + rowSize) (begin table (suc k))
+    && leb (begin table (suc k)) (length table)
+    && areOf k (under k table)
+    && guides (begin table k) (under k table)
 
 -- rows in order: what those within a place and another have of all of them
 pub record Ordered (rs : List (List ℕ)) : Type 0 where
@@ -130,6 +130,6 @@ pub record Ordered (rs : List (List ℕ)) : Type 0 where
   pub lone : alone rs ≡ true
 
 -- THE RULE
-pub record Sound (t : List ℕ) : Type 0 where
-  pub rows : Ordered (allRows t)
-  pub index : every (λ (k : ℕ). isWhole k t) numbers ≡ true
+pub record Sound (table : List ℕ) : Type 0 where
+  pub rows : Ordered (allRows table)
+  pub index : every (λ (k : ℕ). isWhole k table) numbers ≡ true

@@ -16,7 +16,7 @@ use Rattle.frame.specs.declared.checks.Framing.{Framing}
 use Rattle.frame.specs.declared.checks.Framing.the-variants as framing
 use Rattle.frame.proofs.Header.{header-opens}
 use Rattle.profile.specs.Table.{Table, isListed, mayFollow}
-use Rattle.profile.specs.Numbers.{Tells, tableOf, numberIn, segmentNumber}
+use Rattle.profile.specs.Numbers.{AreTable, tableOf, numberIn, segmentNumber}
 use Rattle.profile.specs.Order.{Sound}
 use Rattle.reader.specs.declared.Verdict as code
 use Rattle.walk.specs.declared.Halt.{Halt}
@@ -25,7 +25,7 @@ use Rattle.checks.specs.Fault.{checks, verdict, judge}
 use Rattle.reader.specs.Told.{verdictOf}
 use Rattle.listing.specs.Listing.{Here, Next}
 use Rattle.walk.specs.Judged.{haltVerdict, Counts, Walks}
-use Rattle.codes.proofs.Rules.{tells-same, listed-number}
+use Rattle.codes.proofs.Rules.{are-same-table, listed-number}
 
 module _ (t : List ℕ) (m : Text) (sound : Sound t) (good : framed m ≡ true) where
   abbrev T : Table
@@ -87,7 +87,7 @@ module _ (m : Text) (a : Framing) (told : framingOf a ≡ first (frameTests m) (
   pub judged-framed : a ≡ framing.Framed → framed m ≡ true
   judged-framed e = given-passes (frameTests m) tt tt (sym (ap framingOf (sym e) ∙ told))
 
-  pub judged-on : (t : List ℕ) (T : Table) (v : code.Verdict) → Tells t T → a ≡ framing.Framed → verdictOf v ≡ given (verdict (tableOf t) m) → verdictOf v ≡ judge T m
+  pub judged-on : (t : List ℕ) (T : Table) (v : code.Verdict) → AreTable t T → a ≡ framing.Framed → verdictOf v ≡ given (verdict (tableOf t) m) → verdictOf v ≡ judge T m
   unfolding judge
   judged-on t T v tells e w =
-      w ∙ ap (λ (U : Table). given (verdict U m)) (tells-same t T tells) ∙ sym (first-given (frameTests m) (verdict T m) (judged-framed e))
+      w ∙ ap (λ (U : Table). given (verdict U m)) (are-same-table t T tells) ∙ sym (first-given (frameTests m) (verdict T m) (judged-framed e))

@@ -27,6 +27,6 @@ ReadsSegment q T s r =
 
 -- A FIELD OF A SEGMENT: its first broken check
 abbrev pub ReadsFieldAt : Marks → List ℕ → Text → ℕ → ℕ → Finding → Type 0
-ReadsFieldAt q t s at end r =
+ReadsFieldAt q table s at end r =
     (n : Text) (o : ℕ)
-    → toldAt n o r ≡ firstBroken (fieldChecks q n o (fieldsSeen t q s) (fieldSeen (tableOf t) q s (ruleAt t at end)))
+    → toldAt n o r ≡ firstBroken (fieldChecks q n o (fieldsSeen table q s) (fieldSeen (tableOf table) q s (ruleAt table at end)))

@@ -16,7 +16,7 @@ use Rattle.parts.proofs.Descent.{piece-nil, part-nil}
 use Rattle.parts.proofs.Members.{no-piece}
 use Rattle.frame.specs.Segments.{name, named, ofName, field, unsplit}
 use Rattle.profile.specs.Table.{Table, Leaf, isListed}
-use Rattle.reader.specs.Place.{leafAt, leafOf}
+use Rattle.reader.specs.Place.{leafAt, leafIn}
 use Rattle.striking.specs.Strike.{rewritten, onlyIf, hasComponent, hasLeaf, strikeSubcomponent, strikeComponent, strikeRepetition, hasField, fieldLeaves, strikeSegment}
 use Rattle.striking.proofs.Shrink.{piece-rewritten}
 use Rattle.striking.proofs.Kept.{subcomponent-shrinks, component-shrinks, strikeIn, in-shrinks, name-struck, field-struck, unsplit-struck}
@@ -30,7 +30,7 @@ module _ (q : Marks) (ls : List Leaf) where
       rw (piece-rewritten (q .subcomponent) (strikeSubcomponent ls c) (subcomponent-shrinks q ls c) t b, h)
   subcomponent-gone false t c b h = piece-nil (q .subcomponent) b
 
-  leaf-gone : (t : Text) (c b : ℕ) → hasLeaf ls c b ≡ false → leafOf q false (strikeRepetition q ls t) c b ≡ []
+  leaf-gone : (t : Text) (c b : ℕ) → hasLeaf ls c b ≡ false → leafIn q false (strikeRepetition q ls t) c b ≡ []
   unfolding part
   leaf-gone t c b h =
       rw (piece-rewritten (q .component) (strikeComponent q ls) (component-shrinks q ls) t c)

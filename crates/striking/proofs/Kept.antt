@@ -15,7 +15,7 @@ use Rattle.parts.specs.Split.{split, piece}
 use Rattle.parts.specs.Descent.{part, inField}
 use Rattle.frame.specs.Segments.{name, isHeader, headerField, field, unsplit}
 use Rattle.profile.specs.Table.{Table, Leaf, Row}
-use Rattle.reader.specs.Place.{leafAt, leafOf}
+use Rattle.reader.specs.Place.{leafAt, leafIn}
 use Rattle.striking.specs.Strike.{rewritten, hasComponent, hasLeaf, strikeSubcomponent, strikeComponent, strikeRepetition, rowsAt, hasField, fieldLeaves, strikeField, afterNinth, strikeAfterNinth, strikeHeader, strikeOther, strikeSegment}
 use Rattle.striking.proofs.Shrink.{Sub, sub-self, sub-only, sub-behind, take-front, drop-front, Shrinks, rewritten-sub, piece-rewritten, rewritten-empty}
 
@@ -36,7 +36,7 @@ module _ (q : Marks) (ls : List Leaf) where
       some-mono (λ (l : Leaf). eqb (l .component) c && eqb (l .subcomponent) b) (λ (l : Leaf). eqb (l .component) c)
       (λ l e. both (eqb (l .component) c) (eqb (l .subcomponent) b) e .0) ls h
 
-  pub leaf-kept : (t : Text) (c b : ℕ) → hasLeaf ls c b ≡ true → leafOf q false (strikeRepetition q ls t) c b ≡ leafOf q false t c b
+  pub leaf-kept : (t : Text) (c b : ℕ) → hasLeaf ls c b ≡ true → leafIn q false (strikeRepetition q ls t) c b ≡ leafIn q false t c b
   unfolding part
   leaf-kept t c b h =
       let p = piece c (split (q .component) t) in

@@ -17,7 +17,7 @@ use Rattle.frame.specs.Segments.{name, field, unsplit}
 use Rattle.profile.specs.Table.{Table, Leaf, Listed, leaf, named-by, Usage, Row, Rule, rulesOf, leavesIn}
 use Rattle.profile.proofs.Gathered.{RowOk, RuleOk, gathered-all}
 use Rattle.reader.proofs.Filled.{none-filled}
-use Rattle.reader.specs.Place.{leafOf, repetitions}
+use Rattle.reader.specs.Place.{leafIn, repetitions}
 use Rattle.reader.specs.View.{Field, entriesOf, filledFrom, namedIn, fieldSeen, segmentSeen}
 use Rattle.striking.specs.Strike.{change, hasLeaf, rowsAt, hasField, fieldLeaves, strikeField, strikeSegment}
 use Rattle.profile.specs.Fit.{listsComponent, hasRow, namerListed, mayRepeat, rowFit, fit}
@@ -166,8 +166,8 @@ module _ (T : Table) (q : Marks) (s : Text) (f : ℕ) (has : hasField T (name s)
     entries-same : (t : Text) → entriesOf q false ls (strikeIn T q s f 1 t) ≡ entriesOf q false ls t
     entries-same t =
         map-same
-        (λ (l : Leaf). record { leaf = l; text = leafOf q false (strikeIn T q s f 1 t) (l .component) (l .subcomponent) })
-        (λ (l : Leaf). record { leaf = l; text = leafOf q false t (l .component) (l .subcomponent) })
+        (λ (l : Leaf). record { leaf = l; text = leafIn q false (strikeIn T q s f 1 t) (l .component) (l .subcomponent) })
+        (λ (l : Leaf). record { leaf = l; text = leafIn q false t (l .component) (l .subcomponent) })
         ls
         (all-map (λ (l : Leaf). hasLeaf (fieldLeaves T q s f) (l .component) (l .subcomponent) ≡ true) _
         (λ l e. rw (leaf-kept q (fieldLeaves T q s f) t (l .component) (l .subcomponent) e)) ls all)

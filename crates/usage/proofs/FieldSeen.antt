@@ -39,24 +39,24 @@ module _ (T : Table) (q : Marks) (s : Text) (u : Rule) (x : Text) (is : x ≡ fi
   seen-first = rw seen-filled
 
 -- a field of a segment
-module _ (q : Marks) (t : List ℕ) (s : Text) (k at end : ℕ) (numbered : HasNumber s k) (low : firstField k ≤ getD t (at + fieldColumn) 0) where
+module _ (q : Marks) (table : List ℕ) (s : Text) (k at end : ℕ) (numbered : HasNumber s k) (low : firstField k ≤ getD table (at + fieldColumn) 0) where
   abbrev u : Rule
-  u = ruleAt t at end
+  u = ruleAt table at end
 
   abbrev v : Field
-  v = fieldSeen (tableOf t) q s u
+  v = fieldSeen (tableOf table) q s u
 
   pub cut : unsplit s (u .field) ≡ false
   cut = field-split s k numbered (u .field) low
 
   -- what was read of it, by the rows of its leaves, is what is seen of it
-  module _ (x : Text) (is : x ≡ field q s (getD t (at + fieldColumn) 0))
-      (rows : Rows) (lists : Lists t rows (leavesOfField q t s at end)) (a : ReadField) (by-rows : ReadsField q (leavesAt t rows) (getD t (at + repetitionsColumn) 0) x a) where
-    pub reads : ReadsField q (leavesOfField q t s at end) (u .repetitions) x a
+  module _ (x : Text) (is : x ≡ field q s (getD table (at + fieldColumn) 0))
+      (rows : Rows) (lists : Lists table rows (leavesOfField q table s at end)) (a : ReadField) (by-rows : ReadsField q (leavesAt table rows) (getD table (at + repetitionsColumn) 0) x a) where
+    pub reads : ReadsField q (leavesOfField q table s at end) (u .repetitions) x a
     reads = subst (λ (ls : List Leaf). ReadsField q ls (u .repetitions) x a) (lists .leaves) by-rows
 
     pub surplus-is : a .surplus ≡ v .surplus
-    surplus-is = reads .surplus ∙ sym (seen-surplus (tableOf t) q s u x is cut)
+    surplus-is = reads .surplus ∙ sym (seen-surplus (tableOf table) q s u x is cut)
 
     pub filled-is : a .filled ≡ firstFilled v
-    filled-is = reads .filled ∙ sym (seen-first (tableOf t) q s u x is cut)
+    filled-is = reads .filled ∙ sym (seen-first (tableOf table) q s u x is cut)

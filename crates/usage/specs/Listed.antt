@@ -8,4 +8,4 @@ use Rattle.checks.specs.View.{Field, segmentSeen}
 
 -- what is seen of a segment's listed fields
 abbrev pub fieldsSeen : List ℕ → Marks → Text → List Field
-fieldsSeen t q s = segmentSeen (tableOf t) q s .fields
+fieldsSeen table q s = segmentSeen (tableOf table) q s .fields

@@ -93,8 +93,8 @@ asked : (v : tie.After-advance Inv-loop μ-loop)
     (Sound (a .table .now) × HasNumber (a .s .now) (a .k)) × (IsField (a .table .now) (a .k) (l .loop .at) (d .next-field .result) × (x ≡ field (a .q) (a .s .now) (getD (a .table .now) (l .loop .at + fieldColumn) 0)))
 asked v =
     let l = v .before .before .before .before in
-    let t = there v in
-    (l .before .before .before .before .before .before .before .before .pre, (t .rows, t .text))
+    let table = there v in
+    (l .before .before .before .before .before .before .before .before .pre, (table .rows, table .text))
 
 field-passes-requires : tie.Need-field-passes-requires Inv-loop μ-loop
 field-passes-requires c κs = asked (c .before)

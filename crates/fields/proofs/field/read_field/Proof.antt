@@ -15,11 +15,11 @@ use Rattle.fields.proofs.field.read_field.Statement.{statement}
 use Rattle.fields.proofs.field.read_field.Tie as tie
 
 abbrev Inv-loop : tie.InvT-loop
-Inv-loop s q t rows most found₀ number₀ start₀ found number start =
-    (start ≤ length s) × ((number ≤ start + 1) × Repeats q (leavesAt t rows) s number (split (q .repetition) (drop start s)) found)
+Inv-loop s q table rows most found₀ number₀ start₀ found number start =
+    (start ≤ length s) × ((number ≤ start + 1) × Repeats q (leavesAt table rows) s number (split (q .repetition) (drop start s)) found)
 
 abbrev μ-loop : tie.MeasureT-loop
-μ-loop s q t rows most found₀ number₀ start₀ found number start = length s - start
+μ-loop s q table rows most found₀ number₀ start₀ found number start = length s - start
 
 returns : tie.Need-returns Inv-loop μ-loop
 returns c = repeats-none _ _ _ _ (c .if1 .taken)

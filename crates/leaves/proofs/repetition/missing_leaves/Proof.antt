@@ -9,10 +9,10 @@ use Rattle.leaves.proofs.repetition.missing_leaves.Statement.{statement
 use Rattle.leaves.proofs.repetition.missing_leaves.Tie as tie
 
 abbrev Inv-loop : tie.InvT-loop
-Inv-loop filled t at₀ end at = Search t at₀ end at
+Inv-loop filled table at₀ end at = Search table at₀ end at
 
 abbrev μ-loop : tie.MeasureT-loop
-μ-loop filled t at₀ end at = end - at
+μ-loop filled table at₀ end at = end - at
 
 loop-holds : tie.Need-loop-holds Inv-loop μ-loop
 loop-holds c = search-first (c .pre)

@@ -12,10 +12,10 @@ use Rattle.leaves.proofs.repetition.read_repetition.Statement.{statemen
 use Rattle.leaves.proofs.repetition.read_repetition.Tie as tie
 
 abbrev Inv-loop : tie.InvT-loop
-Inv-loop s q t found₀ cursor₀ at₀ end found cursor at = Reading s q t at₀ end found cursor at
+Inv-loop s q table found₀ cursor₀ at₀ end found cursor at = Reading s q table at₀ end found cursor at
 
 abbrev μ-loop : tie.MeasureT-loop
-μ-loop s q t found₀ cursor₀ at₀ end found cursor at = end - at
+μ-loop s q table found₀ cursor₀ at₀ end found cursor at = end - at
 
 first-piece-requires : tie.Need-first-piece-requires Inv-loop μ-loop
 first-piece-requires c κs = search needs
@@ -89,8 +89,8 @@ sub-leaf-reason c =
     let p = c .before .before .before in
     let d = p .before .before in
     let i = d .before .before .before .before .before .before in
-    let t = i .before .before .before .before .before .args .table .now in
-    piece-inside (getD t (i .before .loop .at + subcomponentColumn) 0) _ _ (p .piece .ensures) .0
+    let table = i .before .before .before .before .before .args .table .now in
+    piece-inside (getD table (i .before .loop .at + subcomponentColumn) 0) _ _ (p .piece .ensures) .0
 
 part-leaf-reason-start : tie.Need-part-leaf-reason-start Inv-loop μ-loop
 part-leaf-reason-start c = sub-leaf-reason c
@@ -100,8 +100,8 @@ part-leaf-reason-end c =
     let p = c .before .before .before in
     let d = p .before .before in
     let i = d .before .before .before .before .before .before in
-    let t = i .before .before .before .before .before .args .table .now in
-    piece-inside (getD t (i .before .loop .at + subcomponentColumn) 0) _ _ (p .piece .ensures) .1
+    let table = i .before .before .before .before .before .args .table .now in
+    piece-inside (getD table (i .before .loop .at + subcomponentColumn) 0) _ _ (p .piece .ensures) .1
 
 leaf-reason-requires : tie.Need-leaf-reason-requires Inv-loop μ-loop
 leaf-reason-requires c κs =

@@ -112,11 +112,11 @@ text-passes-requires c κs =
     let y = l .before in
     let f = y .before .before .before .before .before .before in
     let a = f .before .before .before .args in
-    let t = there v in
+    let table = there v in
     let x = within (f .fields-start .result) (length (a .s .now)) (a .s .now) in
     let b = both (y .is-flat .result) (ltb (length x) 256) (not-false _ (c .before .if4 .left)) in (
       f .before .before .before .pre,
-      ((t .rows, t .text), flat-within (a .q) (v .advance .result .start) (v .advance .result .end) x (sym (y .is-flat .ensures) ∙ b .0)),
+      ((table .rows, table .text), flat-within (a .q) (v .advance .result .start) (v .advance .result .end) x (sym (y .is-flat .ensures) ∙ b .0)),
     )
 
 loop-again : tie.Need-loop-again Inv-loop μ-loop
