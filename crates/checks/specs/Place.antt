@@ -7,6 +7,7 @@ use Rattle.text.specs.declared.marks.Marks.{Marks}
 use Rattle.text.specs.Marks.{marksOf}
 use Rattle.text.specs.Limits.{_to_, isWithin}
 use Rattle.parts.specs.Descent.{cut, part, partStart, inField, inRepetition}
+use Rattle.frame.specs.Frame.{mostSegments}
 use Rattle.frame.specs.Segments.{isName, occurrence, occurrenceStart, field, fieldStart, unsplit}
 
 pub record Place : Type 0 where
@@ -21,15 +22,22 @@ abbrev pub place : Text → ℕ → ℕ → ℕ → ℕ → ℕ → Place
 place n o f r c b =
     record { name = n; occurrence = o; field = f; repetition = r; component = c; subcomponent = b }
 
+-- the greatest number of a field, component or subcomponent, and of a repetition, that may be asked for
+abbrev pub mostNumber : ℕ
+mostNumber = 255
+
+abbrev pub mostRepetition : ℕ
+mostRepetition = 65535
+
 -- a place that may be asked for
 abbrev pub isPlace : Place → Bool
 isPlace p =
     isName (p .name)
-    && isWithin (1 to 512) (p .occurrence)
-    && isWithin (1 to 255) (p .field)
-    && isWithin (1 to 65535) (p .repetition)
-    && isWithin (1 to 255) (p .component)
-    && isWithin (1 to 255) (p .subcomponent)
+    && isWithin (1 to mostSegments) (p .occurrence)
+    && isWithin (1 to mostNumber) (p .field)
+    && isWithin (1 to mostRepetition) (p .repetition)
+    && isWithin (1 to mostNumber) (p .component)
+    && isWithin (1 to mostNumber) (p .subcomponent)
 
 -- THE LEAF at field, repetition, component and subcomponent of a segment, and where it starts in the segment
 unfoldable pub leafAt : Marks → Text → ℕ → ℕ → ℕ → ℕ → Text

@@ -10,16 +10,9 @@ ghost use Rattle.checks.specs.Place.{leafAt};
 ghost use Rattle.text.specs.declared.marks.Marks.{Marks};
 ghost use Rattle.cutting.specs.FromField.{Behind, FieldsFrom, firstRepetition, firstLeaf};
 use frame::is_header;
+use frame::limits;
 use parts::near_end;
 use text::Marks;
-
-// Where a segment's fields begin: the header's third behind its ninth byte, any other's first behind its name and one separator.
-const HEADER_OPENING: usize = 9;
-
-const OPENING: usize = 4;
-
-// MSH-1 and MSH-2, the header's separators, are unsplit.
-const LAST_UNSPLIT: u64 = 2;
 
 // The first piece of a text.
 fn first_piece<'a>(t: &'a [u8], sep: u8) -> &'a [u8]
@@ -73,9 +66,13 @@ pub fn fields_from<'a>(s: &'a [u8], q: Marks, field: u64) -> &'a [u8]
     ensures { λ r. ⌜ FieldsFrom q (now (s .entry)) field (now r) ⌝ }
 {
     if is_header(s) {
-        return behind(skip(s, HEADER_OPENING), q.field, field - LAST_UNSPLIT - 1);
+        return behind(
+            skip(s, limits::HEADER_SIZE),
+            q.field,
+            field - limits::UNSPLIT_FIELDS - 1,
+        );
     }
-    behind(skip(s, OPENING), q.field, field - 1)
+    behind(skip(s, limits::OPENING_SIZE), q.field, field - 1)
 }
 
 // The first repetition of the first of those fields.
@@ -118,7 +115,7 @@ pub fn leaf_text<'a>(s: &'a [u8], q: Marks, field: u64, component: u64) -> &'a [
     requires { ⌜ 1 ≤ field ⌝ }
     ensures { λ r. ⌜ now r ≡ leafAt q (now (s .entry)) field 1 component 1 ⌝ }
 {
-    if is_header(s) & (field <= LAST_UNSPLIT) {
+    if is_header(s) & (field <= limits::UNSPLIT_FIELDS) {
         return unsplit_leaf(s, field, component);
     }
     if component == 0 {

@@ -9,7 +9,14 @@ use Rattle.text.specs.Answer.{Test, test, passes}
 use Rattle.text.specs.declared.marks.Marks.{Marks}
 use Rattle.text.specs.Marks.{marksOf}
 use Rattle.text.specs.declared.refusal.Refusal.the-variants.{Empty, TooLong, BadByte, NoHeader, NoEnd, BadSegment, SecondHeader, TooMany}
-use Rattle.frame.specs.Segments.{segments, isName, isHeader}
+use Rattle.frame.specs.Segments.{headerSize, segments, isName, isHeader}
+
+-- the greatest length of a message, and how many segments it may have
+abbrev pub longestMessage : ℕ
+longestMessage = 65535
+
+abbrev pub mostSegments : ℕ
+mostSegments = 512
 
 -- 20 to 7E hex and CR
 abbrev pub allowed : ℕ → Bool
@@ -38,16 +45,16 @@ abbrev pub segmentTests : Text → List Test
 segmentTests m =
     test BadSegment (not (every (isSegment (marksOf m)) (segments m)))
     ∷ test SecondHeader (some isHeader (drop 1 (segments m)))
-    ∷ test TooMany (ltb 512 (length (segments m)))
+    ∷ test TooMany (ltb mostSegments (length (segments m)))
     ∷ []
 
 -- THE EIGHT TESTS
 unfoldable pub frameTests : Text → List Test
 frameTests m =
     test Empty (empty m)
-    ∷ test TooLong (ltb 65535 (length m))
+    ∷ test TooLong (ltb longestMessage (length m))
     ∷ test BadByte (not (every allowed m))
-    ∷ test NoHeader (not (same (take 9 m) (header (marksOf m))))
+    ∷ test NoHeader (not (same (take headerSize m) (header (marksOf m))))
     ∷ test NoEnd (not (endsWithCR m))
     ∷ segmentTests m
 

@@ -51,25 +51,32 @@ fewer m n o = ltb (length (ofName n (segments m))) o
 abbrev pub isHeader : Text → Bool
 isHeader s = named (bytes "MSH") s
 
+-- the header's name and separators are nine bytes; any other segment's name and separator four
+abbrev pub headerSize : ℕ
+headerSize = 9
+
+abbrev pub openingSize : ℕ
+openingSize = 4
+
 -- the header's fields: MSH-1 and MSH-2 are its separators, and the field after the ninth byte is MSH-3
 abbrev pub headerField : Marks → Text → ℕ → Text
 headerField q s zero = []
 headerField q s (suc zero) = drop 3 (take 4 s)
 headerField q s (suc (suc zero)) = drop 4 (take 8 s)
-headerField q s (suc (suc (suc i))) = piece (suc i) (split (q .field) (drop 9 s))
+headerField q s (suc (suc (suc i))) = piece (suc i) (split (q .field) (drop headerSize s))
 
 abbrev pub headerFieldStart : Marks → Text → ℕ → ℕ
 headerFieldStart q s zero = 0
 headerFieldStart q s (suc zero) = 3
 headerFieldStart q s (suc (suc zero)) = 4
-headerFieldStart q s (suc (suc (suc i))) = 9 + start (q .field) (suc i) (drop 9 s)
+headerFieldStart q s (suc (suc (suc i))) = headerSize + start (q .field) (suc i) (drop headerSize s)
 
 -- FIELD f of a segment, and where it starts in the segment: any other segment's fields stand behind its name and one separator
 unfoldable pub field : Marks → Text → ℕ → Text
-field q s f = pick (isHeader s) (headerField q s f) (piece f (split (q .field) (drop 4 s)))
+field q s f = pick (isHeader s) (headerField q s f) (piece f (split (q .field) (drop openingSize s)))
 
 unfoldable pub fieldStart : Marks → Text → ℕ → ℕ
-fieldStart q s f = pick (isHeader s) (headerFieldStart q s f) (4 + start (q .field) f (drop 4 s))
+fieldStart q s f = pick (isHeader s) (headerFieldStart q s f) (openingSize + start (q .field) f (drop openingSize s))
 
 -- MSH-1 and MSH-2 are unsplit
 abbrev pub unsplit : Text → ℕ → Bool

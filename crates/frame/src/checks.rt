@@ -5,7 +5,9 @@ ghost use Rattle.text.specs.Bytes.{every, same};
 ghost use Rattle.text.specs.Marks.{marksOf};
 ghost use Rattle.text.specs.Answer.{first};
 ghost use Rattle.frame.specs.Frame.{allowed, header, segmentTests, frameTests};
+ghost use Rattle.frame.specs.Segments.{headerSize};
 ghost use Rattle.frame.specs.Told.{framingOf};
+use crate::limits;
 use crate::segment::is_header;
 use crate::segment::is_segment;
 use parts::far_end;
@@ -39,12 +41,12 @@ fn all_allowed(m: &[u8]) -> bool
 }
 
 fn has_header(m: &[u8]) -> bool
-    ensures { λ r. ⌜ r ≡ same (take 9 (now (m .entry))) (header (marksOf (now (m .entry)))) ⌝ }
+    ensures { λ r. ⌜ r ≡ same (take headerSize (now (m .entry))) (header (marksOf (now (m .entry)))) ⌝ }
 {
-    if m.len() < 9 {
+    if m.len() < limits::HEADER_SIZE {
         return false;
     }
-    is_same(&m[0..9], b"MSH|^~\\&|")
+    is_same(&m[0..limits::HEADER_SIZE], b"MSH|^~\\&|")
 }
 
 // BAD SEGMENT, SECOND HEADER, TOO MANY: one walk, since any bad segment comes before the other two.
@@ -69,7 +71,7 @@ fn check_segments(m: &[u8]) -> Framing
     if second {
         return Framing::Refused(Refusal::SecondHeader);
     }
-    if 512 < count {
+    if limits::MOST_SEGMENTS < count {
         return Framing::Refused(Refusal::TooMany);
     }
     Framing::Framed
@@ -82,7 +84,7 @@ pub fn check(m: &[u8]) -> Framing
     if m.len() == 0 {
         return Framing::Refused(Refusal::Empty);
     }
-    if 65535 < m.len() {
+    if limits::LONGEST_MESSAGE < m.len() {
         return Framing::Refused(Refusal::TooLong);
     }
     if !all_allowed(m) {

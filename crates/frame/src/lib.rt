@@ -1,5 +1,6 @@
 // The eight frame checks; segments and their names.
 mod checks;
+pub mod limits;
 mod segment;
 
 pub use checks::Framing;

@@ -18,6 +18,7 @@ use codes::Rows;
 use codes::type_rows;
 use cursor::advance;
 use cursor::first_piece;
+use frame::limits;
 use parts::near_end;
 use profile::columns;
 use profile::numbers;
@@ -28,9 +29,9 @@ use text::Marks;
 pub fn fields_start(s: &[u8], k: u16) -> usize
     ensures { λ r. ⌜ r ≡ min (fieldsFrom k) (length (now (s .entry))) ⌝ }
 {
-    let mut start = 4;
+    let mut start = limits::OPENING_SIZE;
     if k == numbers::MSH {
-        start = 9;
+        start = limits::HEADER_SIZE;
     }
     if s.len() < start {
         return s.len();
@@ -43,7 +44,7 @@ pub fn fields_before(k: u16) -> u64
     ensures { λ r. ⌜ r ≡ fieldsBefore k ⌝ }
 {
     if k == numbers::MSH {
-        return 2;
+        return limits::UNSPLIT_FIELDS;
     }
     0
 }

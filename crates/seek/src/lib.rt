@@ -12,6 +12,7 @@ ghost use Rattle.frame.specs.Segments.{isHeader};
 ghost use Rattle.checks.specs.Shown.{shown};
 ghost use Rattle.seek.specs.Inner.{leafTold, leafFound, leafBehind};
 use frame::is_header;
+use frame::limits;
 use parts::Numbers;
 use parts::Span;
 use parts::descend;
@@ -82,7 +83,7 @@ fn header_leaf(m: &[u8], start: usize, end: usize, q: Marks, n: Numbers) -> Seen
             component: n.component,
             subcomponent: n.subcomponent,
         };
-        return leaf_behind(m, start, end, 9, q, behind);
+        return leaf_behind(m, start, end, limits::HEADER_SIZE, q, behind);
     }
     if !((n.repetition == 1) & (n.component == 1) & (n.subcomponent == 1)) {
         return Seen::Empty;
@@ -101,5 +102,5 @@ pub fn leaf(m: &[u8], start: usize, end: usize, q: Marks, n: Numbers) -> Seen
     if is_header(&m[start..end]) {
         return header_leaf(m, start, end, q, n);
     }
-    leaf_behind(m, start, end, 4, q, n)
+    leaf_behind(m, start, end, limits::OPENING_SIZE, q, n)
 }

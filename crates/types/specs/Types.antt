@@ -90,13 +90,20 @@ isTM t =
     && twos clock (digits t)
     && (isZone (rest t) || eqb (length (digits t)) 6 && isFraction (rest t))
 
+-- how many digits a stamp has, and the greatest length of a reply number
+abbrev pub stampSize : ℕ
+stampSize = 14
+
+abbrev pub mostReplyNumber : ℕ
+mostReplyNumber = 20
+
 -- a stamp: 14 digits that form a DTM
 abbrev pub isStamp : Text → Bool
-isStamp t = eqb (length t) 14 && every digit t && isDTM t
+isStamp t = eqb (length t) stampSize && every digit t && isDTM t
 
 -- a reply number: 1 to 20 capitals or digits
 abbrev pub isReplyNumber : Text → Bool
-isReplyNumber t = isWithin (1 to 20) (length t) && every capitalOrDigit t
+isReplyNumber t = isWithin (1 to mostReplyNumber) (length t) && every capitalOrDigit t
 
 -- ranges from a list of low, high, low, high
 unfoldable pub rangesOf : List ℕ → List Range

@@ -10,6 +10,11 @@ use text::is_digit;
 
 // Low and high of month, day, hour, minute and second; those of the clock are the last three.
 const CALENDAR: [u8; 10] = [1, 12, 1, 31, 0, 23, 0, 59, 0, 59];
+// How many digits a stamp has, and the greatest length of a reply number.
+const STAMP_SIZE: usize = 14;
+
+const MOST_REPLY_NUMBER: usize = 20;
+
 // Low and high of a zone's hour and minute.
 const ZONE: [u8; 4] = [0, 14, 0, 59];
 
@@ -162,7 +167,7 @@ pub fn is_tm(t: &[u8]) -> bool
 pub fn is_stamp(t: &[u8]) -> bool
     ensures { λ r. ⌜ r ≡ isStamp (now (t .entry)) ⌝ }
 {
-    if t.len() != 14 {
+    if t.len() != STAMP_SIZE {
         return false;
     }
     is_si(t) & is_dtm(t)
@@ -171,7 +176,7 @@ pub fn is_stamp(t: &[u8]) -> bool
 pub fn is_reply_number(t: &[u8]) -> bool
     ensures { λ r. ⌜ r ≡ isReplyNumber (now (t .entry)) ⌝ }
 {
-    if !((1 <= t.len()) & (t.len() <= 20)) {
+    if !((1 <= t.len()) & (t.len() <= MOST_REPLY_NUMBER)) {
         return false;
     }
     let mut i = 0;
