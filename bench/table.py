@@ -48,6 +48,17 @@ USUAL = [
     ("M with 506 results", M + RESULT * 505),
     ("the longest message", filled(MOST)),
 ]
+# results as other senders write them, for the judge
+OTHER = [
+    ("500 results with an escape", M + b"OBX|1|ST|45222-7^C4-DC^LN||a\\T\\b|umol/L|||||F\r" * 499),
+    ("500 results with two repetitions in OBX-8", M + b"OBX|1|NM|45222-7^C4-DC^LN||3.16|umol/L|1-2|N~H|||F\r" * 499),
+    ("500 results with `&` in a field that is not listed", M + b"OBX|1|NM|45222-7^C4-DC^LN||3.16|umol/L|||||F||||LAB&X\r" * 499),
+    ("150 results of 300 letters", M + (b"OBX|1|TX|45222-7^C4-DC^LN||" + b"x" * 300 + b"|umol/L|||||F\r") * 149),
+    (
+        "300 results with long names and units",
+        M + b"OBX|1|NM|45222-7^Carnitine free [Moles/volume] in DBS^LN^C0^Free^L||3.16|umol/L^micromoles per liter^UCUM|1-2|N|||F|||20240304\r" * 299,
+    ),
+]
 # hard ones for the judge
 HARD = [
     ("M with 508 segments `NTE`", M + b"NTE\r" * 508),
@@ -148,7 +159,7 @@ def counts(command):
             cells += [f"{counted(command, who, entry, message):.2f}" for who in ("ours", "second")]
         row(what, f"{len(message):,}", *cells)
     table("Message", "Bytes", "judge, ours", "judge, second")
-    for what, message in HARD:
+    for what, message in OTHER + HARD:
         row(what, f"{len(message):,}", *(f"{counted(command, who, 'judge', message):.2f}" for who in ("ours", "second")))
 
 
