@@ -2,7 +2,7 @@
 use mathlib.Core.Path.{_≡_, refl, sym, ap, subst, _∙_}
 use Prim.Native.Nat.{ℕ, suc, _+_, _*_, _≤_}
 use native.Mathlib.Omega.{arith}
-use mathlib.Core.Bool.{Bool, true, _&&_, _||_}
+use mathlib.Core.Bool.{Bool, true, _&&_}
 use mathlib.Core.List.{List, [], _∷_, _++_, map}
 use lib.ListN.{length, getD, take}
 use lib.Seq.{take-at}
@@ -11,7 +11,6 @@ use borrow.Author.Tests.{eqb-true}
 use Rattle.text.specs.Bytes.{every}
 use Rattle.text.proofs.Tests.{both}
 use Rattle.text.proofs.Lists.{or-either}
-use Rattle.profile.specs.Table.{Leaf}
 use Rattle.profile.specs.Numbers.{rowSize, fieldColumn, componentColumn, nextColumn, sureColumn, leafOf}
 use Rattle.profile.specs.Order.{ofField, leads, takesUpTo, isSure, guides}
 use Rattle.codes.specs.Inner.{SureUpTo, sure}

@@ -14,9 +14,9 @@ use Rattle.text.proofs.Tests.{both}
 use Rattle.text.proofs.Lists.{and-both}
 use Rattle.profile.specs.Table.{Listed, Row, Rule, rule, gather, gathered, leavesIn, leavesOf}
 use Rattle.profile.specs.Numbers.{leafOf, listedOf, rowOf, rowsWithin, tableOf, fieldColumn, repetitionsColumn, rowSize, segmentColumn, typeColumn, usageColumn, firstField, firstNamer, nextColumn, sureColumn}
-use Rattle.profile.specs.Order.{areOf, rises, isProper, sameField, Ordered, ofField, isSure, guides}
+use Rattle.profile.specs.Order.{areOf, rises, isProper, sameField, Ordered, ofField, guides}
 use Rattle.codes.specs.Inner.{Ascends, SureUpTo, IsField, ruleAt, leavesNamed}
-use Rattle.codes.proofs.RowSteps.{rows-none, rows-next, rows-length, front-length, rows-cut}
+use Rattle.codes.proofs.RowSteps.{rows-next, rows-length, front-length, rows-cut}
 use Rattle.codes.proofs.Stretch as stretch
 use Rattle.codes.proofs.Stretch.{every-left, every-right}
 use Rattle.codes.proofs.Guided.{guides-first, guides-behind, sure-rows, sure-leaves}

@@ -14,7 +14,7 @@ use Rattle.text.proofs.Tests.{both, same-true}
 use Rattle.text.proofs.Lists.{or-assoc}
 use Rattle.profile.specs.Table.{Leaf, Row, Table, typeLeaves, isListed, gathered, rulesOf}
 use Rattle.profile.specs.Lists.{value-types}
-use Rattle.profile.specs.Numbers.{segmentNames, leafOf, rowOf, rowsWithin, begin, under, leavesUnder, numberIn, segmentNumber, typeNumber, typesFrom, segmentsFrom, tableOf, AreTable, rowSize, fieldColumn, sureColumn, firstType}
+use Rattle.profile.specs.Numbers.{segmentNames, leafOf, rowOf, rowsWithin, begin, under, leavesUnder, numberIn, segmentNumber, typeNumber, typesFrom, segmentsFrom, tableOf, AreTable, rowSize, fieldColumn, sureColumn, firstType, noType}
 use Rattle.profile.specs.Order.{ofField, guides, Sound}
 use Rattle.codes.specs.Inner.{Ascends, SureUpTo, Under, Lists, leavesNamed}
 use Rattle.codes.specs.declared.rows.Rows.{Rows}
@@ -182,11 +182,8 @@ segments-listed table n k (m ∷ ns) h w =
     (segments-listed table n (suc k) ns (omega arith) (λ i a b. w i (omega arith) (omega arith))))
 
 -- under each number of a segment there is a row
-row-under : (table : List ℕ) → Sound table → (k : ℕ) → 1 ≤ k → k < 16 → rowSize ≤ begin table (suc k) - begin table k
-row-under table s k l h =
-    let a = under-whole table s k l (omega arith) in
-    let b = under-whole table s (suc k) (omega arith) h in
-    omega (arith, a .starts, a .some, b .starts)
+row-under : (table : List ℕ) → Sound table → (k : ℕ) → 1 ≤ k → k ≤ noType → rowSize ≤ begin table (suc k) - begin table k
+row-under table s k l h = omega (arith, under-whole table s k l h .some)
 
 pub listed-number : (table : List ℕ) → Sound table → (n : Text) → isListed (tableOf table) n ≡ not (eqb (segmentNumber n) 0)
 unfolding tableOf

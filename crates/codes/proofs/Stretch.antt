@@ -7,7 +7,7 @@ use mathlib.Core.Bool.{Bool, true, not, _&&_, _||_}
 use mathlib.Core.List.{List, [], _∷_, _++_, map}
 use lib.ListN.{length, drop}
 use lib.Dec.{eqb, leb, ltb}
-use borrow.Author.Tests.{eqb-true, ltb-true, leb-true}
+use borrow.Author.Tests.{eqb-true, leb-true}
 use Rattle.text.specs.Bytes.{every}
 use Rattle.text.proofs.Tests.{both}
 use Rattle.text.proofs.Lists.{and-both}

@@ -1,5 +1,5 @@
 -- A short flat text that begins with bytes of its first component breaks nothing where every leaf takes texts of its length.
-use mathlib.Core.Path.{_≡_, refl, sym, ap, _∙_}
+use mathlib.Core.Path.{_≡_, refl, sym, _∙_}
 use Prim.Native.Nat.{ℕ, _+_, _≤_}
 use native.Mathlib.Omega.{arith}
 use mathlib.Core.Bool.{Bool, true, false, not, _&&_, _||_}
@@ -24,7 +24,7 @@ use Rattle.checks.specs.Fault.{Check, accepted, leafChecks, repetitionChecks, f
 use Rattle.leaves.specs.Judged.{ReadsRepetition}
 use Rattle.leaves.proofs.Breaks.{broken-flat}
 use Rattle.fields.specs.Flat.{isFlat, passedOnce}
-use Rattle.fields.proofs.FlatField.{Flat, flat, flat-plain, flat-within}
+use Rattle.fields.proofs.FlatField.{flat, flat-plain, flat-within}
 
 -- types and lists that take any text
 any-type : (k : Simple) (t : Text) → takesAny k ≡ true → ofType k t ≡ true

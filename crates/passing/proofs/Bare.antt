@@ -1,24 +1,21 @@
 -- A segment with no byte in its fields: no field of it is filled, and where none is required nothing is broken.
-use mathlib.Core.Path.{_≡_, refl, sym, ap, _∙_}
+use mathlib.Core.Path.{_≡_, refl}
 use Prim.Native.Nat.{ℕ, zero, suc, _+_, _-_, _≤_, _<_, min}
 use native.Mathlib.Omega.{arith}
-use mathlib.Core.Bool.{false}
-use mathlib.Core.List.{List, [], _∷_}
-use lib.ListN.{length, getD, drop, length-drop}
+use mathlib.Core.List.{List, []}
+use lib.ListN.{length, getD}
 use Rattle.text.specs.Bytes.{Text, within}
 use Rattle.text.specs.declared.marks.Marks.{Marks}
 use Rattle.parts.specs.Split.{split, before}
 use Rattle.cursor.specs.Cursor.{IsPiece}
 use Rattle.cursor.proofs.Moving.{cursor}
-use Rattle.profile.specs.Numbers.{rowSize, fieldColumn, usageColumn, fieldsBefore, fieldsFrom, usageOf, tableOf}
+use Rattle.profile.specs.Numbers.{rowSize, fieldColumn, usageColumn, fieldsBefore, fieldsFrom}
 use Rattle.codes.specs.declared.rows.Rows.{Rows}
 use Rattle.codes.specs.Inner.{Under}
-use Rattle.checks.specs.View.{Field}
-use Rattle.checks.specs.Fault.{isRequired}
 use Rattle.listing.specs.Listing.{HasNumber}
 use Rattle.located.proofs.FieldText.{before-field}
 use Rattle.usage.proofs.SegmentFields.{Left, left-first, Ahead, ahead-number, left-on}
-use Rattle.segments.specs.Judged.{ReadsSegment, atRepetition}
+use Rattle.segments.specs.Judged.{atRepetition}
 use Rattle.segments.proofs.FieldChecks.{usage-none, none-passes}
 use Rattle.segments.proofs.SegmentReading.{Reading, reading-first, text-there, reading-on, reading-none}
 use Rattle.passing.specs.Bare.{BarePasses}

@@ -1,5 +1,4 @@
 -- What only inner functions promise: whether a segment's own fields break something.
-use Prim.Native.Nat.{ℕ}
 use mathlib.Core.Path.{_≡_}
 use mathlib.Core.Bool.{Bool, true, false}
 use Rattle.text.specs.Bytes.{Text}

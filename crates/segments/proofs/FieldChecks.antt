@@ -1,6 +1,6 @@
 -- The first broken check of a field, by its three kinds.
-use mathlib.Core.Path.{_≡_, refl, sym, ap, subst, _∙_}
-use Prim.Native.Nat.{ℕ, _+_, _-_}
+use mathlib.Core.Path.{_≡_, refl, sym, ap, _∙_}
+use Prim.Native.Nat.{ℕ, _+_, _-_, _≤_}
 use native.Mathlib.Numerals.{add-one}
 use native.Mathlib.Omega.{arith}
 use mathlib.Core.Bool.{Bool, true, false, not, _&&_}
@@ -11,8 +11,8 @@ use borrow.Author.Tests.{le-ltb, not-true, not-false}
 use Rattle.text.specs.Bytes.{Text, within}
 use Rattle.text.specs.declared.marks.Marks.{Marks}
 use Rattle.frame.specs.Segments.{field, unsplit}
-use Rattle.profile.specs.Table.{Rule, Leaf}
-use Rattle.profile.specs.Numbers.{fieldColumn, repetitionsColumn, usageColumn, usageOf, tableOf}
+use Rattle.profile.specs.Table.{Rule}
+use Rattle.profile.specs.Numbers.{firstField, fieldColumn, repetitionsColumn, usageColumn, usageOf, tableOf}
 use Rattle.codes.specs.declared.rows.Rows.{Rows}
 use Rattle.codes.specs.Inner.{Lists, IsField, leavesAt, ruleAt}
 use Rattle.codes.proofs.OneField.{field-low}
@@ -22,9 +22,9 @@ use Rattle.checks.specs.View.{Repetition, Field, filledFrom, fieldSeen}
 use Rattle.checks.specs.Fault.{Verdict, accepted, firstFilled, isRequired, repetitionChecks, fieldChecks, firstBroken}
 use Rattle.listing.specs.Listing.{HasNumber}
 use Rattle.located.specs.Listed.{leavesOfField}
-use Rattle.located.proofs.FieldText.{field-split}
 use Rattle.usage.specs.Listed.{fieldsSeen}
-use Rattle.usage.proofs.FieldSeen.{seen-surplus, seen-filled, seen-first}
+use Rattle.usage.proofs.FieldSeen as seen
+use Rattle.usage.proofs.FieldSeen.{seen-surplus, seen-filled}
 use Rattle.segments.specs.declared.Finding.{Finding}
 use Rattle.segments.specs.Judged.{toldAt, atRepetition, ReadsFieldAt}
 
@@ -74,8 +74,11 @@ module _ {q : Marks} {table : List ℕ} {s : Text} {k at end : ℕ} {x : Text} (
   abbrev required : Bool
   required = isRequired (usageOf (getD table (at + usageColumn) 0)) (fieldsSeen table q s)
 
+  low : firstField k ≤ u .field
+  low = field-low table k at end (h .rows)
+
   cut : unsplit s (u .field) ≡ false
-  cut = field-split s k (h .numbered) (u .field) (field-low table k at end (h .rows))
+  cut = seen.cut q table s k at end (h .numbered) low
 
   -- of no bytes it breaks nothing unless it is required
   module _ (none : x ≡ []) where
@@ -96,13 +99,13 @@ module _ {q : Marks} {table : List ℕ} {s : Text} {k at end : ℕ} {x : Text} (
   -- what was read of it, by the rows of its leaves, tells its first broken check
   module _ {rows : Rows} (lists : Lists table rows (leavesOfField q table s at end)) {a : ReadField} (by-rows : ReadsField q (leavesAt table rows) (getD table (at + repetitionsColumn) 0) x a) where
     reads : ReadsField q (leavesOfField q table s at end) (u .repetitions) x a
-    reads = subst (λ (ls : List Leaf). ReadsField q ls (u .repetitions) x a) (lists .leaves) by-rows
+    reads = seen.reads q table s k at end (h .numbered) low x (h .text) rows lists a by-rows
 
     surplus-is : a .surplus ≡ v .surplus
-    surplus-is = reads .surplus ∙ sym (seen-surplus (tableOf table) q s u x (h .text) cut)
+    surplus-is = seen.surplus-is q table s k at end (h .numbered) low x (h .text) rows lists a by-rows
 
     filled-is : a .filled ≡ firstFilled v
-    filled-is = reads .filled ∙ sym (seen-first (tableOf table) q s u x (h .text) cut)
+    filled-is = seen.filled-is q table s k at end (h .numbered) low x (h .text) rows lists a by-rows
 
     pub judged-surplus : a .surplus ≡ true
         → ReadsFieldAt q table s at end (atRepetition 4 (getD table (at + fieldColumn) 0) (getD table (at + repetitionsColumn) 0 + 1))

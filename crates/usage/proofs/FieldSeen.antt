@@ -4,8 +4,8 @@ use Prim.Native.Nat.{ℕ, _+_, _≤_}
 use mathlib.Core.Bool.{false}
 use mathlib.Core.List.{List}
 use lib.ListN.{length, getD}
-use lib.Dec.{eqb, ltb}
-use Rattle.text.specs.Bytes.{Text, pick}
+use lib.Dec.{ltb}
+use Rattle.text.specs.Bytes.{Text}
 use Rattle.text.specs.declared.marks.Marks.{Marks}
 use Rattle.frame.specs.Segments.{field, unsplit}
 use Rattle.profile.specs.Table.{Table, Leaf, Rule, leavesOf}

@@ -7,7 +7,7 @@ use mathlib.Core.List.{List, [], _∷_, map}
 use lib.ListN.{length, getD}
 use lib.Dec.{eqb}
 use borrow.Author.Tests.{eq-eqb, ne-eqb}
-use Rattle.text.specs.Bytes.{Text, pick, some}
+use Rattle.text.specs.Bytes.{Text, some}
 use Rattle.text.specs.declared.marks.Marks.{Marks}
 use Rattle.frame.specs.Segments.{name}
 use Rattle.profile.specs.Table.{C, gathered}

@@ -1,6 +1,5 @@
 -- `is_broken`: a segment that passes breaks nothing; any other is read.
 use mathlib.Core.Path.{_≡_}
-use Prim.Native.Nat.{ℕ}
 use borrow.Author.Needs.{needs}
 use borrow.Author.Tests.{eq-eqb}
 use Rattle.text.specs.Bytes.{Text}

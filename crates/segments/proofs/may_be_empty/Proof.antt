@@ -1,6 +1,5 @@
 -- `may_be_empty`: an optional field, or one that is not required.
 use mathlib.Core.Path.{sym, _∙_}
-use native.Mathlib.Omega.{arith}
 use borrow.Author.Needs.{needs}
 use borrow.Author.Tests.{not-true}
 use Rattle.segments.proofs.FieldChecks.{usage-none}

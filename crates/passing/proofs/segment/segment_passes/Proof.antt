@@ -2,10 +2,9 @@
 use mathlib.Core.Path.{refl, sym, _∙_}
 use Prim.Native.Nat.{_+_, _-_}
 use native.Mathlib.Omega.{arith}
-use mathlib.Core.Bool.{true}
 use borrow.Author.Needs.{needs}
 use borrow.Author.Tests.{not-false}
-use lib.ListN.{length, length-drop, length-take, drop}
+use lib.ListN.{length}
 use lib.Dec.{ltb}
 use Rattle.text.specs.Bytes.{within}
 use Rattle.text.proofs.Tests.{both, not-true}
