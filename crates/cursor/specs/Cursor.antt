@@ -3,7 +3,8 @@ use Prim.Native.Nat.{ℕ, _+_, _≤_}
 use mathlib.Core.Path.{_≡_}
 use lib.ListN.{length}
 use Rattle.text.specs.Bytes.{Text}
-use Rattle.parts.specs.Split.{split, piece, start}
+use Rattle.parts.specs.Split.{split, piece}
+use Rattle.parts.specs.Start.{start}
 use Rattle.cursor.specs.declared.Cursor.{Cursor}
 
 -- a cursor stands at the piece of its number

@@ -11,7 +11,8 @@ use borrow.Author.Tests.{le-leb, lt-leb, leb-false}
 use lib.Dec.{leb}
 use Rattle.text.specs.Bytes.{Text, within}
 use Rattle.text.specs.declared.marks.Marks.{Marks}
-use Rattle.parts.specs.Split.{split, piece, reach}
+use Rattle.parts.specs.Split.{split, piece}
+use Rattle.parts.specs.Start.{reach}
 use Rattle.parts.specs.Descent.{part, inRepetition}
 use Rattle.parts.proofs.Split.{before-first}
 use Rattle.parts.proofs.Descent.{within-piece, piece-nil}

@@ -18,7 +18,8 @@ use Rattle.text.proofs.Tests.{both}
 use native.Mathlib.Nat.{zero-add}
 use Rattle.text.proofs.Tests.{not-true as no}
 use Rattle.text.proofs.Lists.{and-both, or-none, every-drop, every-take}
-use Rattle.parts.specs.Split.{split, piece, start}
+use Rattle.parts.specs.Split.{split, piece}
+use Rattle.parts.specs.Start.{start}
 use Rattle.parts.specs.Span.{span}
 use Rattle.cursor.specs.Cursor.{IsPiece}
 use Rattle.cursor.specs.declared.Cursor.{Cursor}

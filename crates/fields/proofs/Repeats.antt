@@ -13,7 +13,8 @@ use Rattle.text.specs.Bytes.{Text, some, within}
 use Rattle.text.specs.declared.marks.Marks.{Marks}
 use Rattle.text.proofs.Tests.{not-true}
 use Rattle.text.proofs.Lists.{or-assoc, or-false}
-use Rattle.parts.specs.Split.{split, reach}
+use Rattle.parts.specs.Split.{split}
+use Rattle.parts.specs.Start.{reach}
 use Rattle.parts.proofs.Reach.{split-end}
 use Rattle.parts.proofs.Join.{Some, split-some}
 use Rattle.profile.specs.Table.{Leaf}

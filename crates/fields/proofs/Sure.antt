@@ -10,7 +10,8 @@ use borrow.Author.Tests.{eqb-true, ne-eqb, leb-true, le-ltb}
 use Rattle.text.specs.Bytes.{Text, empty, every, some, within}
 use Rattle.text.specs.declared.marks.Marks.{Marks}
 use Rattle.text.proofs.Tests.{both, not-true as no}
-use Rattle.parts.specs.Split.{split, piece, start, front}
+use Rattle.parts.specs.Split.{split, piece, front}
+use Rattle.parts.specs.Start.{start}
 use Rattle.parts.specs.Descent.{part}
 use Rattle.parts.proofs.Split.{piece-le}
 use Rattle.parts.proofs.Descent.{within-piece}

@@ -7,7 +7,8 @@ use lib.ListN.{getD, take, drop}
 use lib.Seq.{take-length}
 use Rattle.text.specs.Bytes.{Text, pick, cr, keep}
 use Rattle.text.specs.declared.marks.Marks.{Marks}
-use Rattle.parts.specs.Split.{split, piece, start, before, ended}
+use Rattle.parts.specs.Split.{split, piece, ended}
+use Rattle.parts.specs.Start.{start, before}
 use Rattle.parts.proofs.Split.{Stands, piece-stands, stands, stands-in}
 use Rattle.frame.specs.Segments.{segments, named, ofName, ahead, occurrence, occurrenceStart, isHeader, headerField, headerFieldStart, field, fieldStart}
 

@@ -6,7 +6,8 @@ use lib.ListN.{length, take, drop}
 use lib.Dec.{leb, ltb}
 use Rattle.text.specs.Bytes.{Text, pick, bytes, cr, capital, capitalOrDigit, keep, same}
 use Rattle.text.specs.declared.marks.Marks.{Marks}
-use Rattle.parts.specs.Split.{split, piece, start, before, ended}
+use Rattle.parts.specs.Split.{split, piece, ended}
+use Rattle.parts.specs.Start.{start, before}
 
 -- THE SEGMENTS: what each CR ends
 abbrev pub segments : Text → List Text

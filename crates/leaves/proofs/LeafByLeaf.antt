@@ -15,7 +15,8 @@ use Rattle.text.proofs.Tests.{both}
 use Rattle.text.proofs.Lists.{or-assoc, or-false}
 use Rattle.cursor.specs.declared.Cursor.{Cursor}
 use Rattle.parts.specs.declared.Span.{Span}
-use Rattle.parts.specs.Split.{split, piece, start}
+use Rattle.parts.specs.Split.{split, piece}
+use Rattle.parts.specs.Start.{start}
 use Rattle.parts.specs.Descent.{part, step}
 use Rattle.parts.specs.Span.{span}
 use Rattle.cursor.specs.Cursor.{IsPiece}

@@ -4,7 +4,7 @@ use mathlib.Core.Path.{_≡_}
 use mathlib.Core.List.{[], _∷_, map}
 use lib.ListN.{length, getD, take, drop}
 use Rattle.text.specs.Bytes.{Text, cr, within}
-use Rattle.parts.specs.Split.{reach}
+use Rattle.parts.specs.Start.{reach}
 use Rattle.frame.specs.Segments.{segments, name}
 use Rattle.profile.specs.Table.{Table}
 use Rattle.profile.specs.Numbers.{segmentNumber}

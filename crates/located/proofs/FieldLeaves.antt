@@ -10,7 +10,8 @@ use lib.Dec.{eqb}
 use Rattle.profile.specs.Numbers.{typeColumn, firstField, sureColumn}
 use Rattle.text.specs.Bytes.{Text, pick, within}
 use Rattle.text.specs.declared.marks.Marks.{Marks}
-use Rattle.parts.specs.Split.{split, piece, reach}
+use Rattle.parts.specs.Split.{split, piece}
+use Rattle.parts.specs.Start.{reach}
 use Rattle.parts.specs.Descent.{part, inField}
 use Rattle.parts.proofs.Reach.{end-inside}
 use Rattle.parts.proofs.Descent.{within-length}

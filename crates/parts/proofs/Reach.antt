@@ -11,7 +11,8 @@ use lib.Dec.{eqb}
 use borrow.Author.Tests.{eq-eqb, ne-eqb, eqb-false}
 use Rattle.text.specs.Bytes.{Text, pick}
 use Rattle.text.proofs.Lists.{or-none}
-use Rattle.parts.specs.Split.{front, split, before, reach, ended}
+use Rattle.parts.specs.Split.{front, split, ended}
+use Rattle.parts.specs.Start.{before, reach}
 use Rattle.parts.proofs.Join.{Some, split-some}
 
 module _ (sep : ℕ) where

@@ -9,7 +9,8 @@ use lib.ListN.{length, getD, take, drop, take-append-drop, length-take, length-d
 use lib.Seq.{drop-drop, take-append-seam}
 use lib.Dec.{eqb}
 use Rattle.text.specs.Bytes.{Text, pick}
-use Rattle.parts.specs.Split.{front, split, piece, before, start}
+use Rattle.parts.specs.Split.{front, split, piece}
+use Rattle.parts.specs.Start.{before, start}
 
 -- where a text stands in another: behind so many bytes
 abbrev pub Stands : Text → ℕ → Text → Type 0

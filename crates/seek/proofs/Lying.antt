@@ -15,7 +15,8 @@ use Rattle.text.specs.declared.marks.Marks.{Marks}
 use Rattle.text.proofs.Tests.{not-true}
 use Rattle.parts.specs.declared.Span.{Span}
 use Rattle.parts.specs.declared.Numbers.{Numbers}
-use Rattle.parts.specs.Split.{split, piece, start}
+use Rattle.parts.specs.Split.{split, piece}
+use Rattle.parts.specs.Start.{start}
 use Rattle.parts.specs.Descent.{Step, part, partStart, inField}
 use Rattle.parts.specs.Span.{span, stepsFrom}
 use Rattle.parts.proofs.Descent.{within-length, reached, part-nil}

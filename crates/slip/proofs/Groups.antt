@@ -10,7 +10,8 @@ use lib.Seq.{length-take-le, drop-drop}
 use lib.Dec.{ltb}
 use borrow.Author.Tests.{ltb-true, ltb-false}
 use Rattle.text.specs.Bytes.{Text, pick, bytes, cr, keep}
-use Rattle.parts.specs.Split.{before, reach, ended}
+use Rattle.parts.specs.Split.{ended}
+use Rattle.parts.specs.Start.{before, reach}
 use Rattle.parts.proofs.Split.{before-first}
 use Rattle.parts.proofs.Reach.{ended-next, ended-last, before-next}
 use Rattle.parts.proofs.Descent.{within-length}

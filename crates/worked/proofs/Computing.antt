@@ -5,7 +5,8 @@ use Rattle.text.specs.Answer.{first}
 use Rattle.text.specs.Marks.{marksOf}
 use Rattle.escape.specs.Escape.{endsOutside, resolvedFrom, resolve}
 use Rattle.types.specs.Types.{digits, rest, twos}
-use Rattle.parts.specs.Split.{split, before, ended, led, join, closed, trimmed}
+use Rattle.parts.specs.Split.{split, ended, led, join, closed, trimmed}
+use Rattle.parts.specs.Start.{before}
 use Rattle.parts.specs.Descent.{part, partStart}
 use Rattle.frame.specs.Segments.{field, fieldStart, ahead}
 use Rattle.frame.specs.Frame.{endsWithCR, frameTests}
