@@ -12,7 +12,8 @@ use Rattle.text.proofs.Tests.{both}
 use Rattle.text.proofs.Lists.{and-both, or-false, All, all-keep, every-drop, every-take}
 use Rattle.parts.specs.Split.{front, split, piece, ended}
 use Rattle.parts.specs.Descent.{Step, cut, part, inField}
-use Rattle.frame.specs.Segments.{segments, named, ofName, isHeader, headerField, field, unsplit}
+use Rattle.frame.specs.Segments.{segments, named, ofName, isHeader, field, unsplit}
+use Rattle.frame.specs.Starts.{headerField}
 use Rattle.frame.specs.Frame.{allowed, framed}
 use Rattle.frame.proofs.Frame.{framed-tests}
 use Rattle.checks.specs.Place.{Place, leafAt, textAt}

@@ -6,7 +6,8 @@ use Rattle.text.specs.Marks.{marksOf}
 use Rattle.parts.specs.Descent.{part, partStart, inField}
 use Rattle.parts.proofs.Split.{Stands, stands-in}
 use Rattle.parts.proofs.Descent.{part-stands}
-use Rattle.frame.specs.Segments.{occurrence, occurrenceStart, field, fieldStart, unsplit}
+use Rattle.frame.specs.Segments.{occurrence, field, unsplit}
+use Rattle.frame.specs.Starts.{occurrenceStart, fieldStart}
 use Rattle.frame.proofs.Segments.{occurrence-stands, field-stands}
 use Rattle.checks.specs.Place.{Place, leafAt, leafStart, textAt, startAt}
 

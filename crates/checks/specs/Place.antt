@@ -8,7 +8,8 @@ use Rattle.text.specs.Marks.{marksOf}
 use Rattle.text.specs.Limits.{_to_, isWithin}
 use Rattle.parts.specs.Descent.{cut, part, partStart, inField, inRepetition}
 use Rattle.frame.specs.Frame.{mostSegments}
-use Rattle.frame.specs.Segments.{isName, occurrence, occurrenceStart, field, fieldStart, unsplit}
+use Rattle.frame.specs.Segments.{isName, occurrence, field, unsplit}
+use Rattle.frame.specs.Starts.{occurrenceStart, fieldStart}
 
 pub record Place : Type 0 where
   pub name : Text

@@ -1,3 +1,6 @@
+-- what entries promise
 pub mod Segments
 pub mod Frame
 pub mod Told
+-- inner
+pub mod Starts

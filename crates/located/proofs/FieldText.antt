@@ -15,7 +15,8 @@ use Rattle.text.specs.declared.marks.Marks.{Marks}
 use Rattle.parts.specs.Split.{split, piece}
 use Rattle.cursor.specs.Cursor.{IsPiece}
 use Rattle.cursor.specs.declared.Cursor.{Cursor}
-use Rattle.frame.specs.Segments.{name, isHeader, field, headerField, unsplit}
+use Rattle.frame.specs.Segments.{name, isHeader, field, unsplit}
+use Rattle.frame.specs.Starts.{headerField}
 use Rattle.listing.specs.Listing.{HasNumber}
 use Rattle.cursor.proofs.Moving.{cursor-text}
 use Rattle.codes.proofs.Numbered.{header-number}

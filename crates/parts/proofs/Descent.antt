@@ -122,7 +122,7 @@ closed-before sep (b ∷ t) zero l = refl
 closed-before sep (b ∷ t) (suc j) l = closed-step sep b t (eqb b sep) (split sep t) j (closed-before sep t) l
 
 -- a piece that has bytes is there
-there : (ps : List Text) (i : ℕ) → empty (getD ps i []) ≡ false → i < length ps
+pub there : (ps : List Text) (i : ℕ) → empty (getD ps i []) ≡ false → i < length ps
 there [] i e = not-true (sym e)
 there (p ∷ ps) zero e = omega arith
 there (p ∷ ps) (suc i) e = omega (arith, there ps i e)

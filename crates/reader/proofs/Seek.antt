@@ -14,7 +14,8 @@ use Rattle.parts.proofs.Descent.{within-length}
 use Rattle.parts.proofs.Reach.{ended-on, before-on, ended-end}
 use Rattle.reader.specs.declared.standing.Standing.{Standing}
 use Rattle.reader.specs.declared.standing.Standing.the-variants.{Missing, Segment}
-use Rattle.frame.specs.Segments.{segments, named, ofName, ahead, occurrence, occurrenceStart, fewer}
+use Rattle.frame.specs.Segments.{segments, named, ofName, occurrence, fewer}
+use Rattle.frame.specs.Starts.{ahead, occurrenceStart}
 use Rattle.reader.specs.Copied.{standing}
 use Rattle.frame.proofs.Segments.{occurrence-stands}
 

@@ -20,7 +20,8 @@ use Rattle.parts.specs.Start.{start}
 use Rattle.parts.specs.Descent.{Step, part, partStart, inField}
 use Rattle.parts.specs.Span.{span, stepsFrom}
 use Rattle.parts.proofs.Descent.{within-length, reached, part-nil}
-use Rattle.frame.specs.Segments.{isHeader, field, fieldStart}
+use Rattle.frame.specs.Segments.{isHeader, field}
+use Rattle.frame.specs.Starts.{fieldStart}
 use Rattle.checks.specs.Place.{leafAt, leafStart}
 use Rattle.checks.specs.Shown.{Found, Empty, Text-from-to, shown}
 use Rattle.seek.specs.Inner.{leafFound, leafBehind}

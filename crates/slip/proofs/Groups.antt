@@ -16,7 +16,8 @@ use Rattle.parts.proofs.Split.{before-first}
 use Rattle.parts.proofs.Reach.{ended-next, ended-last, before-next}
 use Rattle.parts.proofs.Descent.{within-length}
 use Rattle.reader.specs.declared.standing.Standing.the-variants.{Segment}
-use Rattle.frame.specs.Segments.{segments, named, ofName, ahead}
+use Rattle.frame.specs.Segments.{segments, named, ofName}
+use Rattle.frame.specs.Starts.{ahead}
 use Rattle.reader.specs.Copied.{standing}
 use Rattle.frame.proofs.Segments.{ahead-named}
 use Rattle.reader.proofs.Seek.{standing-enough, standing-start, standing-inside, standing-text}

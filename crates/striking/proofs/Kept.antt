@@ -13,7 +13,8 @@ use Rattle.text.proofs.Tests.{both}
 use Rattle.text.proofs.Lists.{some-mono}
 use Rattle.parts.specs.Split.{split, piece}
 use Rattle.parts.specs.Descent.{part, inField}
-use Rattle.frame.specs.Segments.{name, isHeader, headerField, field, unsplit}
+use Rattle.frame.specs.Segments.{name, isHeader, field, unsplit}
+use Rattle.frame.specs.Starts.{headerField}
 use Rattle.profile.specs.Table.{Table, Leaf, Row}
 use Rattle.reader.specs.Place.{leafAt, leafIn}
 use Rattle.striking.specs.Strike.{rewritten, hasComponent, hasLeaf, strikeSubcomponent, strikeComponent, strikeRepetition, rowsAt, hasField, fieldLeaves, strikeField, afterNinth, strikeAfterNinth, strikeHeader, strikeOther, strikeSegment}

@@ -8,7 +8,8 @@ use Rattle.types.specs.Types.{digits, rest, twos}
 use Rattle.parts.specs.Split.{split, ended, led, join, closed, trimmed}
 use Rattle.parts.specs.Start.{before}
 use Rattle.parts.specs.Descent.{part, partStart}
-use Rattle.frame.specs.Segments.{field, fieldStart, ahead}
+use Rattle.frame.specs.Segments.{field}
+use Rattle.frame.specs.Starts.{fieldStart, ahead}
 use Rattle.frame.specs.Frame.{endsWithCR, frameTests}
 use Rattle.profile.specs.Table.{typeLeaves, gathered, rulesOf}
 use Rattle.profile.specs.Rows.{rows}
