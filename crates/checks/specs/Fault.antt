@@ -1,3 +1,4 @@
+-- An entry's promise is made of this.
 -- The checks of a message in the order of the walk. Its fault is the first that is broken; it is accepted where none is.
 use Prim.Native.Nat.{ℕ, suc}
 use mathlib.Core.Path.{_≡_}

@@ -1,3 +1,4 @@
+-- An entry's promise is made of this.
 -- Looking up a place: 1 to 8, 9, 10, or Empty, or Text with its start and end in the message.
 use mathlib.Core.Bool.{Bool, not}
 use mathlib.Core.List.{List, [], _∷_, _++_}
@@ -7,10 +8,10 @@ use Rattle.text.specs.declared.refusal.Refusal.the-variants.{BadPlace, NoSegmen
 use Rattle.frame.specs.Frame.{frameTests}
 use Rattle.frame.specs.Segments.{fewer}
 pub use Rattle.checks.specs.Shown.{Found, Empty, Text-from-to, shown}
-use Rattle.checks.specs.Place.{Place, isPlace, textAt, startAt}
+use Rattle.checks.specs.Place.{Place, isPlace, standsAt}
 
 abbrev pub found : Text → Place → Found
-found m p = shown (startAt m p) (textAt m p)
+found m p = shown (standsAt m p .start) (standsAt m p .text)
 
 -- fewer segments of that name
 abbrev pub tooFew : Text → Place → Bool

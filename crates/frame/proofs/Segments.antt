@@ -6,12 +6,12 @@ use mathlib.Core.Bool.{Bool, true, false}
 use mathlib.Core.List.{List, [], _∷_, dropLast}
 use lib.ListN.{getD, take, drop}
 use lib.Seq.{take-length}
-use Rattle.text.specs.Bytes.{Text, pick, cr, empty, keep}
+use Rattle.text.specs.Bytes.{Text, pick, cr, empty, keep, same}
 use Rattle.text.specs.declared.marks.Marks.{Marks}
 use Rattle.parts.specs.Split.{split, piece, ended, Located, whole, inside}
 use Rattle.parts.specs.Start.{start, before}
 use Rattle.text.proofs.Tests.{not-true}
-use Rattle.parts.proofs.Descent.{inside-start}
+use Rattle.parts.proofs.Descent.{inside-start, piece-nil}
 use Rattle.parts.proofs.Split.{Stands, piece-stands, stands, stands-in}
 use Rattle.frame.specs.Segments.{segments, named, ofName, occurrence, isHeader, headerSize, openingSize, after, headerFieldOf, fieldOf, field}
 use Rattle.frame.specs.Starts.{ahead, occurrenceStart, headerField, headerFieldStart, fieldStart}
@@ -124,3 +124,7 @@ pub field-start : (q : Marks) (s : Located) (f : ℕ) → StartIs (fieldOf q s f
 unfolding fieldStart
 field-start q s f e = unfold fieldOf in start-step q s f (isHeader (s .text)) (rw (field-is q (s .text) f) at e)
 
+-- of no segment there is no field
+pub field-nil : (q : Marks) (f : ℕ) → field q [] f ≡ []
+unfolding same
+field-nil q f = field-is q [] f ∙ piece-nil (q .field) f
