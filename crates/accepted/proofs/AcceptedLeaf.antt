@@ -15,11 +15,13 @@ use Rattle.text.specs.Limits.{tooLong}
 use Rattle.text.proofs.Tests.{not-true, same-true}
 use Rattle.text.proofs.Lists.{All, all-map, all-both, all-keep, all-kept, every-all, some-mono, or-none}
 use Rattle.parts.specs.Split.{split, piece}
-use Rattle.parts.specs.Descent.{Step, cut, part, inRepetition}
+use Rattle.parts.specs.Descent.{Step, part, inRepetition}
 use Rattle.frame.specs.Segments.{segments, name, named, ofName, occurrence, fewer, field, unsplit}
 use Rattle.profile.specs.Table.{Table, Leaf, Rule, Usage, R, ofType, among, isListed, rulesOf, leavesOf}
-use Rattle.checks.specs.Place.{place, leafAt, leafIn, repetitions}
-use Rattle.checks.specs.View.{Entry, Repetition, Field, Segment, entriesOf, isFilled, filledFrom, namedIn, fieldSeen, segmentSeen, listedSegments, view}
+use Rattle.checks.specs.Place.{place, leafAt, repetitions}
+use Rattle.checks.specs.Repetition.{leafIn}
+use Rattle.checks.specs.View.{Entry, Repetition, Field, Segment, isFilled, namedIn, fieldSeen, segmentSeen, listedSegments, view}
+use Rattle.checks.specs.Repetition.{entriesOf, filledFrom}
 use Rattle.checks.specs.Fault.{Check, leafChecks, repetitionChecks, startsFilled, firstFilled, isRequired, fieldChecks, count, walk, checks, accepted, verdict}
 use Rattle.parts.proofs.Members.{append-all, keep-step, keep-all, some-map, map-all, flatMap-all, piece-all, member-all, no-piece}
 use Rattle.parts.proofs.Descent.{piece-nil}
@@ -166,7 +168,7 @@ module _ (q : Marks) (whole : Bool) where
   cut-nil sep r false = piece-nil sep r
 
   part-empty : (ss : List Step) → part whole ss [] ≡ []
-  unfolding part
+  unfolding partText
   part-empty [] = refl
   part-empty (s ∷ ss) = rw (cut-nil (s .mark) (s .number) whole) (part-empty ss)
 
@@ -217,7 +219,7 @@ module _ (T : Table) (q : Marks) (s : Text) (u : Rule) where
 
   -- a leaf of the field is that leaf of the repetition
   leaf-in : (r c b : ℕ) → leafAt q s f r c b ≡ leafIn q whole (piece r ts) c b
-  unfolding leafAt repetitions part
+  unfolding leafAt repetitions partText
   leaf-in r c b = ap (λ (t : Text). part whole (inRepetition q c b) t) (pieces-same q whole (field q s f) r)
 
   module _ (judged : All (FilledJudged q (entriesOf q whole ls)) ts) where

@@ -11,8 +11,10 @@ use Rattle.text.proofs.Lists.{All, all-map, all-append, all-keep, every-all, al
 use Rattle.frame.specs.Segments.{name, unsplit}
 use Rattle.profile.specs.Table.{Table, Leaf, Listed, leaf, named-by, Row, Type-leaves, typeLeaves, Rule, rulesOf, leavesIn, leavesOf}
 use Rattle.profile.proofs.Gathered.{gathered-all}
-use Rattle.checks.specs.Place.{Place, place, leafIn, repetitions}
-use Rattle.checks.specs.View.{Entry, Repetition, Field, Segment, entriesOf, isFilled, filledFrom, namedIn, fieldSeen, segmentSeen, listedSegments, view}
+use Rattle.checks.specs.Place.{Place, place, repetitions}
+use Rattle.checks.specs.Repetition.{leafIn}
+use Rattle.checks.specs.View.{Entry, Repetition, Field, Segment, isFilled, namedIn, fieldSeen, segmentSeen, listedSegments, view}
+use Rattle.checks.specs.Repetition.{entriesOf, filledFrom}
 use Rattle.checks.specs.Fault.{Check, leafChecks, repetitionChecks, fieldChecks, count, walk, checks, Verdict, accepted, fault, firstBroken, verdict}
 
 -- what is made of each member

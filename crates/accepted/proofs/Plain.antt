@@ -11,7 +11,7 @@ use Rattle.text.specs.Marks.{marksOf}
 use Rattle.text.proofs.Tests.{both}
 use Rattle.text.proofs.Lists.{and-both, or-false, All, all-keep, every-drop, every-take}
 use Rattle.parts.specs.Split.{front, split, piece, ended}
-use Rattle.parts.specs.Descent.{Step, cut, part, inField}
+use Rattle.parts.specs.Descent.{Step, part, inField}
 use Rattle.frame.specs.Segments.{segments, named, ofName, isHeader, field, unsplit}
 use Rattle.frame.specs.Starts.{headerField}
 use Rattle.frame.specs.Frame.{allowed, framed}
@@ -62,7 +62,7 @@ cut-each p true sep t e = (e, tt)
 cut-each p false sep t e = split-each p sep t e
 
 part-each : (p : ℕ → Bool) (whole : Bool) (ss : List Step) (t : Text) → Each p t → Each p (part whole ss t)
-unfolding part
+unfolding partText
 part-each p whole [] t e = e
 part-each p whole (s ∷ ss) t e =
     part-each p whole ss (piece (s .number) (cut whole (s .mark) t))
@@ -85,7 +85,7 @@ module _ (p : ℕ → Bool) (q : Marks) (s : Text) (e : Each p s) where
   field-step f false = behind-each 4 f
 
   field-each : (f : ℕ) → Each p (field q s f)
-  unfolding field
+  unfolding fieldOf
   field-each f = field-step f (isHeader s)
 
   leaf-each : (f r c b : ℕ) → Each p (leafAt q s f r c b)

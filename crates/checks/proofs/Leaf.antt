@@ -41,3 +41,7 @@ leaf-text q s f r c b =
 -- of a field that is split
 pub leaf-split : (q : Marks) (s : Text) (f r c b : ℕ) → unsplit s f ≡ false → leafAt q s f r c b ≡ partText (inField q r c b) (field q s f)
 leaf-split q s f r c b cut = rw (leaf-is q s f r c b, cut)
+
+-- and of one that is not
+pub leaf-one : (q : Marks) (s : Text) (f r c b : ℕ) → unsplit s f ≡ true → leafAt q s f r c b ≡ pick (eqb r 1 && eqb c 1 && eqb b 1) (field q s f) []
+leaf-one q s f r c b cut = rw (leaf-is q s f r c b, cut)

@@ -7,7 +7,8 @@ use lib.ListN.{getD}
 use Rattle.text.specs.Bytes.{Text}
 use Rattle.text.specs.declared.marks.Marks.{Marks}
 use Rattle.parts.specs.Split.{split, piece}
-use Rattle.parts.specs.Descent.{part, inRepetition}
+use Rattle.parts.specs.Descent.{inRepetition}
+use Rattle.parts.specs.Span.{partText}
 use Rattle.frame.specs.Segments.{field}
 
 -- r is what stands of t behind n separators
@@ -23,4 +24,4 @@ abbrev pub firstRepetition : Marks → Text → Text
 firstRepetition q t = piece 1 (split (q .repetition) (piece 1 (split (q .field) t)))
 
 abbrev pub firstLeaf : Marks → Text → Text
-firstLeaf q t = part false (inRepetition q 1 1) t
+firstLeaf q t = partText (inRepetition q 1 1) t

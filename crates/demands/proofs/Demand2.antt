@@ -27,7 +27,8 @@ use Rattle.reader.specs.declared.Fault as code-fault
 use Rattle.reader.specs.declared.Verdict.{Verdict}
 use Rattle.reader.specs.declared.Verdict.the-variants.{Refused, Accepted, Fault}
 use Rattle.reader.specs.declared.search.LookedUp.{LookedUp}
-use Rattle.reader.specs.Place.{Place, textAt, startAt}
+use Rattle.reader.specs.Place.{Place, textAt}
+use Rattle.reader.specs.Starts.{startAt}
 use Rattle.reader.specs.LookUp.{Empty, Text-from-to, found, lookUpTests, lookUp}
 use Rattle.reader.specs.Told.{placeOf, foundOf}
 use Rattle.reader.specs.Fault.{checks, noneBroken, fault, verdict, judge}

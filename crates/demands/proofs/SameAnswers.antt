@@ -19,7 +19,8 @@ use Rattle.text.proofs.Answer.{first-passed, first-given, tell-first}
 use Rattle.frame.specs.Segments.{segments, name, named, ofName, occurrence}
 use Rattle.frame.specs.Frame.{frameTests, framed}
 use Rattle.profile.specs.Table.{Table, Row, isListed}
-use Rattle.reader.specs.Place.{Place, place, isPlace, textAt, startAt}
+use Rattle.reader.specs.Place.{Place, place, isPlace, textAt}
+use Rattle.reader.specs.Starts.{startAt}
 use Rattle.reader.specs.LookUp.{Empty, Text-from-to, found, tooFew, lookUpTests, lookUp}
 use Rattle.reader.specs.Fault.{checks, verdict, judge}
 use Rattle.reader.proofs.Stands.{text-stands}

@@ -24,7 +24,8 @@ use Rattle.reader.specs.declared.Found.the-variants as found
 use Rattle.reader.specs.declared.Verdict.{Verdict}
 use Rattle.reader.specs.declared.Verdict.the-variants.{Accepted, Fault}
 use Rattle.reader.specs.declared.search.LookedUp.{LookedUp}
-use Rattle.reader.specs.Place.{Place, textAt, startAt}
+use Rattle.reader.specs.Place.{Place, textAt}
+use Rattle.reader.specs.Starts.{startAt}
 use Rattle.reader.specs.Fault.{checks, noneBroken, FirstBroken, condition}
 use Rattle.reader.specs.Told.{placeOf}
 use Rattle.text.specs.Part.{VeryPart}

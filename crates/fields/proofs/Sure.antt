@@ -19,8 +19,10 @@ use Rattle.parts.proofs.Join.{split-one}
 use Rattle.profile.specs.Table.{Simple, SI, NM, DTM, TM, ST, TX, FT, ID, IS, Codes, any, only, Leaf, ofType, among}
 use Rattle.profile.specs.Order.{takesAny, hasNoList, takesUpTo}
 use Rattle.codes.specs.Inner.{SureUpTo, sure}
-use Rattle.checks.specs.Place.{Place, place, leafIn}
-use Rattle.checks.specs.View.{Entry, entriesOf}
+use Rattle.checks.specs.Place.{Place, place}
+use Rattle.checks.specs.Repetition.{leafIn}
+use Rattle.checks.specs.View.{Entry}
+use Rattle.checks.specs.Repetition.{entriesOf}
 use Rattle.checks.specs.Fault.{Check, accepted, leafChecks, repetitionChecks, firstBroken}
 use Rattle.leaves.specs.Judged.{ReadsRepetition}
 use Rattle.leaves.proofs.Breaks.{broken-flat}
@@ -101,8 +103,8 @@ module _ (q : Marks) (x : Text) (clean : isFlat q x ≡ true) (filled : 1 ≤ le
   component-flat : (c : ℕ) → isFlat q (component c) ≡ true
   component-flat c = rw (component-is c) at (flat-within q (from c) (from c + length (component c)) x clean)
 
-  leaf-is : (c : ℕ) → leafIn q false x c 1 ≡ component c
-  unfolding part
+  leaf-is : (c : ℕ) → leafIn q x c 1 ≡ component c
+  unfolding partText
   leaf-is c = rw (split-one (q .subcomponent) (component c) (flat q (component c) (component-flat c) .subcomponent))
 
   first-filled : empty (component 1) ≡ false
@@ -113,7 +115,7 @@ module _ (q : Marks) (x : Text) (clean : isFlat q x ≡ true) (filled : 1 ≤ le
   starred true c e = rw (e refl, first-filled)
   starred false c e = and-false (empty (component c))
 
-  leaf-good : (l : Leaf) → Takes n l → (p : Place) → firstBroken (leafChecks q p l (leafIn q false x (l .component) (l .subcomponent))) ≡ accepted
+  leaf-good : (l : Leaf) → Takes n l → (p : Place) → firstBroken (leafChecks q p l (leafIn q x (l .component) (l .subcomponent))) ≡ accepted
   unfolding firstBroken
   leaf-good l t p =
       let c = l .component in
@@ -121,13 +123,13 @@ module _ (q : Marks) (x : Text) (clean : isFlat q x ≡ true) (filled : 1 ≤ le
       rw (t .first, leaf-is c, starred (l .star) c (t .star), le-ltb (l .limit) (length (component c)) fits, flat-plain q (component c) (component-flat c), any-type (l .type) (component c) (t .type), any-code (l .list) (component c) (t .list), and-false (not (empty (component c))))
 
   leaves-good : (ls : List Leaf) → every (takesUpTo n) ls ≡ true → (m : Text) (o f k : ℕ)
-      → firstBroken (repetitionChecks q m o f (record { number = k; entries = entriesOf q false ls x })) ≡ accepted
+      → firstBroken (repetitionChecks q m o f (record { number = k; entries = entriesOf q ls x })) ≡ accepted
   unfolding every flatMap firstBroken
   leaves-good [] e m o f k = refl
   leaves-good (l ∷ ls) e m o f k =
       let h = both (takesUpTo n l) (every (takesUpTo n) ls) e in
       let checks : Entry → List Check = λ e. leafChecks q (place m o f k (e .leaf .component) (e .leaf .subcomponent)) (e .leaf) (e .text) in
-      broken-flat checks (record { leaf = l; text = leafIn q false x (l .component) (l .subcomponent) }) (entriesOf q false ls x)
+      broken-flat checks (record { leaf = l; text = leafIn q x (l .component) (l .subcomponent) }) (entriesOf q ls x)
       ∙ rw (leaf-good l (takes n l (h .0)) (place m o f k (l .component) (l .subcomponent))) (leaves-good ls (h .1) m o f k)
 
   -- THE REPETITION is filled and breaks nothing

@@ -86,6 +86,12 @@ pub field-is : (q : Marks) (s : Text) (f : ℕ) → field q s f ≡ pick (isHead
 unfolding fieldOf
 field-is q s f = text-step q (whole s) f (isHeader s)
 
+pub field-header : (q : Marks) (s : Text) (f : ℕ) → isHeader s ≡ true → field q s f ≡ headerField q s f
+field-header q s f e = rw (field-is q s f, e)
+
+pub field-other : (q : Marks) (s : Text) (f : ℕ) → isHeader s ≡ false → field q s f ≡ piece f (split (q .field) (drop openingSize s))
+field-other q s f e = rw (field-is q s f, e)
+
 -- where it starts does not alter its bytes
 pub field-text : (q : Marks) (s : Located) (f : ℕ) → fieldOf q s f .text ≡ field q (s .text) f
 unfolding fieldOf

@@ -13,7 +13,8 @@ use Rattle.text.specs.Marks.{usual, marksOf}
 use Rattle.parts.specs.Split.{led, join, trimmed}
 use Rattle.parts.proofs.Trim.{trimmed-join, trimmed-led, trimmed-left, trimmed-none, none-left}
 use Rattle.profile.specs.Lists.{processing-ids}
-use Rattle.parts.specs.Descent.{part, inRepetition}
+use Rattle.parts.specs.Descent.{inRepetition}
+use Rattle.parts.specs.Span.{partText}
 use Rattle.frame.specs.Segments.{occurrence}
 use Rattle.reader.specs.Place.{textAt}
 use Rattle.reader.specs.FromField.{Behind, FieldsFrom, firstRepetition, firstLeaf}
@@ -61,7 +62,7 @@ pub record Copies (t a b c : Text) : Type 0 where
 
 module _ (q : Marks) (t u w : Text) (later : Behind (q .component) 1 t u) (last : Behind (q .component) 1 u w) where
   leaves : (a b c : Text) → a ≡ orEmpty q 20 (firstLeaf q t) → b ≡ orEmpty q 199 (firstLeaf q u) → c ≡ orEmpty q 20 (firstLeaf q w)
-      → join (usual .component) (trimmed (a ∷ b ∷ c ∷ [])) ≡ hdOf q (part false (inRepetition q 1 1) t) (part false (inRepetition q 2 1) t) (part false (inRepetition q 3 1) t)
+      → join (usual .component) (trimmed (a ∷ b ∷ c ∷ [])) ≡ hdOf q (partText (inRepetition q 1 1) t) (partText (inRepetition q 2 1) t) (partText (inRepetition q 3 1) t)
   leaves a b c i j k =
       rw (i, j, k, component-leaf q 1 t u later, component-leaf q 2 t w (behind-both (q .component) 1 1 t u w later last))
 

@@ -12,7 +12,8 @@ use Rattle.text.specs.Bytes.{Text, pick, within}
 use Rattle.text.specs.declared.marks.Marks.{Marks}
 use Rattle.parts.specs.Split.{split, piece}
 use Rattle.parts.specs.Start.{reach}
-use Rattle.parts.specs.Descent.{part, inField}
+use Rattle.parts.specs.Descent.{inField}
+use Rattle.parts.specs.Span.{partText}
 use Rattle.parts.proofs.Reach.{end-inside}
 use Rattle.parts.proofs.Descent.{within-length}
 use Rattle.cursor.proofs.Moving.{cursor, cursor-text, cursor-first}
@@ -57,8 +58,8 @@ module _ (q : Marks) (x : Text) (a b : ℕ) (first : a ≡ 0 + reach (q .repetit
     pub leaf-inside : e ≤ length x
     leaf-inside = omega (arith, second-inside, front-inside (q .subcomponent) x b e second-inside third)
 
-    pub leaf-first : within 0 e x ≡ part false (inField q 1 1 1) x
-    unfolding part
+    pub leaf-first : within 0 e x ≡ partText (inField q 1 1 1) x
+    unfolding partText
     leaf-first =
         let p : ℕ → Text → Text = λ sep y. piece 1 (split sep y) in
         front-text (q .subcomponent) x b e second-inside third
@@ -94,11 +95,11 @@ module _ (q : Marks) (table : List ℕ) (s : Text) (k at end : ℕ) (is : IsFiel
 
 -- the type that a field names is its first leaf
 module _ (q : Marks) (table : List ℕ) (s : Text) (k : ℕ) (numbered : HasNumber s k) (namer : ℕ) (low : firstField k ≤ namer) where
-  named-text : (x : Text) → x ≡ field q s namer → part false (inField q 1 1 1) x ≡ namedIn q s namer
+  named-text : (x : Text) → x ≡ field q s namer → partText (inField q 1 1 1) x ≡ namedIn q s namer
   unfolding leafAt
   named-text x e = rw (field-split s k numbered namer low, ← e)
 
-  pub lists-type : (r : Rows) (x : Text) → x ≡ field q s namer → (e : ℕ) → within 0 e x ≡ part false (inField q 1 1 1) x → Lists table r (leavesNamed table (within 0 e x))
+  pub lists-type : (r : Rows) (x : Text) → x ≡ field q s namer → (e : ℕ) → within 0 e x ≡ partText (inField q 1 1 1) x → Lists table r (leavesNamed table (within 0 e x))
       → Lists table r (leavesNamed table (namedIn q s namer))
   lists-type r x f e g h = subst (λ (ls : List Leaf). Lists table r ls) (ap (leavesNamed table) (g ∙ named-text x f)) h
 

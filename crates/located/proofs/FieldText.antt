@@ -50,7 +50,7 @@ third q s (suc (suc (suc i))) l =
 -- over whether the segment is the header
 text-step : (q : Marks) (s : Text) (f : ℕ) (b : Bool) → isHeader s ≡ b → pick b 3 1 ≤ f
     → field q s f ≡ piece (f - pick b 2 0) (split (q .field) (drop (pick b 9 4) s))
-unfolding field
+unfolding fieldOf
 text-step q s f true e l = rw e (third q s f l)
 text-step q s f false e l =
     let z : f - 0 ≡ f = omega arith in

@@ -25,7 +25,7 @@ stood-inside m s a e g w = subst (Stood m) g w
 
 -- of no segment there is no leaf
 pub leaf-none : (q : Marks) (f r c b : ℕ) → leafAt q [] f r c b ≡ []
-unfolding leafAt field same
+unfolding leafAt fieldOf same
 leaf-none q f r c b = rw (piece-nil (q .field) f) (part-nil (inField q r c b))
 
 -- a segment that is missing

@@ -32,7 +32,8 @@ use Rattle.seek.specs.Inner.{leafFound}
 use Rattle.reader.specs.Told.{placeOf, foundOf}
 use Rattle.reader.specs.Inner.{Inside}
 use Rattle.checks.proofs.Stands.{text-stands}
-use Rattle.checks.specs.Place.{Place, isPlace, textAt, startAt}
+use Rattle.checks.specs.Place.{Place, isPlace, textAt}
+use Rattle.checks.specs.Starts.{startAt}
 
 -- the text that an answer names lies in the message
 pub shown-step : (k a e : ℕ) (t : Text) → Text-from-to a e ≡ shown k t → (a ≡ k) × ((e ≡ k + length t) × (0 < length t))

@@ -11,7 +11,8 @@ use Rattle.text.proofs.Answer.{first-asked}
 use Rattle.reader.specs.declared.Place as code
 use Rattle.reader.specs.declared.Found as code-found
 use Rattle.reader.specs.declared.search.LookedUp.{LookedUp}
-use Rattle.checks.specs.Place.{Place, textAt, startAt}
+use Rattle.checks.specs.Place.{Place, textAt}
+use Rattle.checks.specs.Starts.{startAt}
 use Rattle.checks.specs.LookUp.{Text-from-to, found, lookUpTests, lookUp}
 use Rattle.reader.specs.Told.{placeOf, foundOf}
 use Rattle.reader.specs.Part.{startOf, endOf}

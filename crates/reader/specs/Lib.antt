@@ -3,6 +3,8 @@ pub use Rattle.checks.specs.Place
 pub use Rattle.checks.specs.LookUp
 pub use Rattle.checks.specs.View
 pub use Rattle.checks.specs.Fault
+pub use Rattle.checks.specs.Starts
+pub use Rattle.checks.specs.Repetition
 pub use Rattle.cutting.specs.FromField
 pub mod Told
 pub mod Part

@@ -5,9 +5,10 @@ use lib.ListN.{drop}
 use Rattle.text.specs.Bytes.{Text}
 use Rattle.text.specs.declared.marks.Marks.{Marks}
 use Rattle.parts.specs.declared.Numbers.{Numbers}
-use Rattle.parts.specs.Descent.{part, partStart}
+use Rattle.parts.specs.Span.{partText, partStart}
 use Rattle.parts.specs.Span.{stepsFrom}
-use Rattle.checks.specs.Place.{leafAt, leafStart}
+use Rattle.checks.specs.Place.{leafAt}
+use Rattle.checks.specs.Starts.{leafStart}
 use Rattle.checks.specs.Shown.{Found, Empty, Text-from-to, shown}
 use Rattle.seek.specs.declared.Seen as code
 
@@ -25,4 +26,4 @@ leafFound q n k s =
 -- the leaf of the fields that stand behind so many bytes of such a segment
 abbrev pub leafBehind : Marks → Numbers → ℕ → ℕ → Text → Found
 leafBehind q n k skip s =
-    shown (k + (skip + partStart false (stepsFrom q n 4) (drop skip s))) (part false (stepsFrom q n 4) (drop skip s))
+    shown (k + (skip + partStart (stepsFrom q n 4) (drop skip s))) (partText (stepsFrom q n 4) (drop skip s))

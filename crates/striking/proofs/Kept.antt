@@ -16,7 +16,8 @@ use Rattle.parts.specs.Descent.{part, inField}
 use Rattle.frame.specs.Segments.{name, isHeader, field, unsplit}
 use Rattle.frame.specs.Starts.{headerField}
 use Rattle.profile.specs.Table.{Table, Leaf, Row}
-use Rattle.reader.specs.Place.{leafAt, leafIn}
+use Rattle.reader.specs.Place.{leafAt}
+use Rattle.reader.specs.Repetition.{leafIn}
 use Rattle.striking.specs.Strike.{rewritten, hasComponent, hasLeaf, strikeSubcomponent, strikeComponent, strikeRepetition, rowsAt, hasField, fieldLeaves, strikeField, afterNinth, strikeAfterNinth, strikeHeader, strikeOther, strikeSegment}
 use Rattle.striking.proofs.Shrink.{Sub, sub-self, sub-only, sub-behind, take-front, drop-front, Shrinks, rewritten-sub, piece-rewritten, rewritten-empty}
 
@@ -37,8 +38,8 @@ module _ (q : Marks) (ls : List Leaf) where
       some-mono (λ (l : Leaf). eqb (l .component) c && eqb (l .subcomponent) b) (λ (l : Leaf). eqb (l .component) c)
       (λ l e. both (eqb (l .component) c) (eqb (l .subcomponent) b) e .0) ls h
 
-  pub leaf-kept : (t : Text) (c b : ℕ) → hasLeaf ls c b ≡ true → leafIn q false (strikeRepetition q ls t) c b ≡ leafIn q false t c b
-  unfolding part
+  pub leaf-kept : (t : Text) (c b : ℕ) → hasLeaf ls c b ≡ true → leafIn q (strikeRepetition q ls t) c b ≡ leafIn q t c b
+  unfolding partText
   leaf-kept t c b h =
       let p = piece c (split (q .component) t) in
       rw (
@@ -85,7 +86,7 @@ module _ (T : Table) (q : Marks) (s : Text) where
       → part w (inField q r c b) (unless w (strikeField T q s f) t) ≡ part w (inField q r c b) t
   part-kept true t f r c b h = refl
   part-kept false t f r c b h =
-      unfold part in
+      unfold partText in
       rw (has-field f c b h, piece-rewritten (q .repetition) (strikeIn f) (in-shrinks f) t r)
       (leaf-kept q (fieldLeaves T q s f) (piece r (split (q .repetition) t)) c b h)
 
@@ -135,7 +136,7 @@ module _ (T : Table) (q : Marks) (s : Text) where
   field-by false f = other-field f
 
   pub field-struck : (f : ℕ) → field q (strikeSegment T q s) f ≡ unless (unsplit s f) (strikeField T q s f) (field q s f)
-  unfolding field
+  unfolding fieldOf
   field-struck f = rw name-struck (unfold strikeSegment in field-by (isHeader s) f)
 
   pub unsplit-struck : (f : ℕ) → unsplit (strikeSegment T q s) f ≡ unsplit s f

@@ -12,13 +12,15 @@ use Rattle.text.specs.declared.marks.Marks.{Marks}
 use Rattle.text.proofs.Tests.{not-true, both, same-true}
 use Rattle.text.proofs.Lists.{All, and-both, or-left, all-map, all-both, all-keep, all-kept, every-all, some-mono, some-flatMap, map-same, flatMap-same, all-flatMap, Member, all-members, some-kept}
 use Rattle.parts.specs.Split.{split}
-use Rattle.parts.specs.Descent.{cut}
+
 use Rattle.frame.specs.Segments.{name, field, unsplit}
 use Rattle.profile.specs.Table.{Table, Leaf, Listed, leaf, named-by, Usage, Row, Rule, rulesOf, leavesIn}
 use Rattle.profile.proofs.Gathered.{RowOk, RuleOk, gathered-all}
 use Rattle.reader.proofs.Filled.{none-filled}
-use Rattle.reader.specs.Place.{leafIn, repetitions}
-use Rattle.reader.specs.View.{Field, entriesOf, filledFrom, namedIn, fieldSeen, segmentSeen}
+use Rattle.reader.specs.Place.{repetitions}
+use Rattle.reader.specs.Repetition.{leafIn}
+use Rattle.reader.specs.View.{Field, namedIn, fieldSeen, segmentSeen}
+use Rattle.reader.specs.Repetition.{entriesOf, filledFrom}
 use Rattle.striking.specs.Strike.{change, hasLeaf, rowsAt, hasField, fieldLeaves, strikeField, strikeSegment}
 use Rattle.profile.specs.Fit.{listsComponent, hasRow, namerListed, mayRepeat, rowFit, fit}
 use Rattle.striking.proofs.Shrink.{split-rewritten, count-rewritten, rewritten-empty}
@@ -132,7 +134,7 @@ module _ (q : Marks) where
 
   -- a field of no bytes has no filled repetition, whether it is taken for none or for one
   filled-all : (ls : List Leaf) (k : ℕ) (t : Text)
-      → filledFrom k (entriesOf q false ls) (reps false t) ≡ filledFrom k (entriesOf q false ls) (split (q .repetition) t)
+      → filledFrom k (entriesOf q ls) (reps false t) ≡ filledFrom k (entriesOf q ls) (split (q .repetition) t)
   unfolding filledFrom split
   filled-all ls k [] = rw (none-filled q ls)
   filled-all ls k (b ∷ t) = refl
@@ -163,17 +165,17 @@ module _ (T : Table) (q : Marks) (s : Text) (f : ℕ) (has : hasField T (name s)
   surplus-same false n (b ∷ t) l = count-by n b t (struck (b ∷ t)) l (struck-count (b ∷ t))
 
   module _ (ls : List Leaf) (all : All (λ (l : Leaf). hasLeaf (fieldLeaves T q s f) (l .component) (l .subcomponent) ≡ true) ls) where
-    entries-same : (t : Text) → entriesOf q false ls (strikeIn T q s f 1 t) ≡ entriesOf q false ls t
+    entries-same : (t : Text) → entriesOf q ls (strikeIn T q s f 1 t) ≡ entriesOf q ls t
     entries-same t =
         map-same
-        (λ (l : Leaf). record { leaf = l; text = leafIn q false (strikeIn T q s f 1 t) (l .component) (l .subcomponent) })
-        (λ (l : Leaf). record { leaf = l; text = leafIn q false t (l .component) (l .subcomponent) })
+        (λ (l : Leaf). record { leaf = l; text = leafIn q (strikeIn T q s f 1 t) (l .component) (l .subcomponent) })
+        (λ (l : Leaf). record { leaf = l; text = leafIn q t (l .component) (l .subcomponent) })
         ls
         (all-map (λ (l : Leaf). hasLeaf (fieldLeaves T q s f) (l .component) (l .subcomponent) ≡ true) _
         (λ l e. rw (leaf-kept q (fieldLeaves T q s f) t (l .component) (l .subcomponent) e)) ls all)
 
     filled-change : (k : ℕ) (ts : List Text)
-        → filledFrom k (entriesOf q false ls) (change (strikeIn T q s f) ts) ≡ filledFrom k (entriesOf q false ls) ts
+        → filledFrom k (entriesOf q ls) (change (strikeIn T q s f) ts) ≡ filledFrom k (entriesOf q ls) ts
     unfolding filledFrom change
     filled-change k [] = refl
     filled-change k (t ∷ ts) = rw (entries-same t, filled-change (suc k) ts)
@@ -182,7 +184,7 @@ module _ (T : Table) (q : Marks) (s : Text) (f : ℕ) (has : hasField T (name s)
     filled-same true t = refl
     filled-same false t =
         filled-all q ls 1 (struck t)
-        ∙ ap (filledFrom 1 (entriesOf q false ls)) (struck-split t)
+        ∙ ap (filledFrom 1 (entriesOf q ls)) (struck-split t)
         ∙ filled-change 1 (split (q .repetition) t)
         ∙ sym (filled-all q ls 1 t)
 
