@@ -1,6 +1,6 @@
 -- What holds of each check of a message, and so of its fault, by tests on the table's fields and leaves and by what holds of the segments' names.
 use mathlib.Core.Path.{_≡_}
-use Prim.Native.Nat.{ℕ, suc}
+use Prim.Native.Nat.{ℕ, zero, suc}
 use mathlib.Core.Bool.{Bool, true, _&&_}
 use mathlib.Core.List.{List, [], _∷_, map, flatMap}
 use Rattle.text.specs.Bytes.{Text, every, keep, same}
@@ -8,13 +8,11 @@ use Rattle.text.specs.declared.marks.Marks.{Marks}
 use Rattle.text.specs.Marks.{marksOf}
 use Rattle.text.proofs.Tests.{both, picks}
 use Rattle.text.proofs.Lists.{All, all-map, all-append, all-keep, every-all, all-flatMap}
-use Rattle.frame.specs.Segments.{name, unsplit}
+use Rattle.frame.specs.Segments.{name}
 use Rattle.profile.specs.Table.{Table, Leaf, Listed, leaf, named-by, Row, Type-leaves, typeLeaves, Rule, rulesOf, leavesIn, leavesOf}
 use Rattle.profile.proofs.Gathered.{gathered-all}
-use Rattle.checks.specs.Place.{Place, place, repetitions}
-use Rattle.checks.specs.Repetition.{leafIn}
-use Rattle.checks.specs.View.{Entry, Repetition, Field, Segment, isFilled, namedIn, fieldSeen, segmentSeen, listedSegments, view}
-use Rattle.checks.specs.Repetition.{entriesOf, filledFrom}
+use Rattle.checks.specs.Place.{Place, place, leafAt, repetitions}
+use Rattle.checks.specs.View.{Entry, Repetition, Field, Segment, entriesAt, isFilled, filledUpTo, namedIn, fieldSeen, segmentSeen, listedSegments, view}
 use Rattle.checks.specs.Fault.{Check, leafChecks, repetitionChecks, fieldChecks, count, walk, checks, Verdict, accepted, fault, firstBroken, verdict}
 
 -- what is made of each member
@@ -65,12 +63,12 @@ module _ (F : ℕ → Bool) (L : Leaf → Bool) where
   named-leaves (x ∷ xs) otherwise t a h =
       picks Leaves (same (x .type) t) (every-all L (x .leaves) (a .0)) (named-leaves xs otherwise t (a .1) h)
 
-  filled-pass : (k : ℕ) (read : Text → List Entry) (ts : List Text) → ((t : Text) → All EntryPasses (read t)) → All RepetitionPasses (filledFrom k read ts)
-  unfolding filledFrom
-  filled-pass k read [] h = tt
-  filled-pass k read (t ∷ ts) h =
-      let rest = filled-pass (suc k) read ts h in
-      picks (All RepetitionPasses) (isFilled (read t)) (h t, rest) rest
+  filled-pass : (read : ℕ → List Entry) (k n : ℕ) → ((r : ℕ) → All EntryPasses (read r)) → All RepetitionPasses (filledUpTo read k n)
+  unfolding filledUpTo
+  filled-pass read k zero h = tt
+  filled-pass read k (suc n) h =
+      let rest = filled-pass read (suc k) n h in
+      picks (All RepetitionPasses) (isFilled (read k)) (h k, rest) rest
 
   module _ (T : Table) (ok : tablePasses T ≡ true) where
     parts : (every rowPasses (T .rows) ≡ true) × ((every typePasses (T .types) ≡ true) × (every L (T .otherwise) ≡ true))
@@ -104,12 +102,11 @@ module _ (F : ℕ → Bool) (L : Leaf → Bool) where
     field-passes : (q : Marks) (s : Text) (u : Rule) → RulePasses u → FieldPasses (fieldSeen T q s u)
     unfolding fieldSeen
     field-passes q s u h =
-        let ls = leavesOf T (namedIn q s) u in
-        let w = unsplit s (u .field) in (
+        let ls = leavesOf T (namedIn q s) u in (
           h .1,
-          filled-pass 1 (entriesOf q w ls) (repetitions q s (u .field))
-              (λ t.
-              all-made-of (λ l. L l ≡ true) EntryPasses (λ (l : Leaf). record { leaf = l; text = leafIn q w t (l .component) (l .subcomponent) })
+          filled-pass (entriesAt q s (u .field) ls) 1 (repetitions q s (u .field))
+              (λ r.
+              all-made-of (λ l. L l ≡ true) EntryPasses (λ (l : Leaf). record { leaf = l; text = leafAt q s (u .field) r (l .component) (l .subcomponent) })
               (λ l e. e) ls (leaves-pass (namedIn q s) u h)),
         )
 

@@ -14,11 +14,11 @@ use Rattle.parts.specs.Span.{partText}
 use Rattle.parts.proofs.Descent.{part-nil}
 use Rattle.frame.specs.Segments.{field, unsplit}
 use Rattle.profile.specs.Table.{Leaf}
-use Rattle.checks.specs.Place.{apart, leafAt, repetitions}
+use Rattle.checks.specs.Place.{leafAt, repetitions}
 use Rattle.checks.specs.View.{Entry, Repetition, entriesAt, isFilled, addFilled, filledUpTo}
 use Rattle.checks.specs.Repetition.{leafIn, entriesOf, filledFrom, repetitionsIn}
 use Rattle.checks.specs.Fault.{startsFilled}
-use Rattle.checks.proofs.Leaf.{leaf-split}
+use Rattle.checks.proofs.Leaf.{leaf-split, count-is}
 
 -- a repetition that is not the first does not fill the first
 late-step : (b : Bool) (k : ℕ) (es : List Entry) (rs : List Repetition) → 1 < k → startsFilled rs ≡ false
@@ -64,9 +64,9 @@ unfolding filledUpTo filledFrom
 or-none true numbered read ts h = refl
 or-none false numbered read ts h = h
 
-count-step : (b : Bool) (ts : List Text) → pick b 0 (length ts) ≡ length (pick b [] ts)
-count-step true ts = refl
-count-step false ts = refl
+none-step : (b : Bool) (ts : List Text) → pick b 0 (length ts) ≡ length (pick b [] ts)
+none-step true ts = refl
+none-step false ts = refl
 
 -- A FIELD THAT IS SPLIT: its repetitions, and their leaves, are told from its bytes
 module _ (q : Marks) (s : Text) (f : ℕ) (cut : unsplit s f ≡ false) where
@@ -78,16 +78,15 @@ module _ (q : Marks) (s : Text) (f : ℕ) (cut : unsplit s f ≡ false) where
   split-entries [] i = refl
   split-entries (l ∷ ls) i = rw (split-leaf i (l .component) (l .subcomponent), split-entries ls i)
 
-  count-is : repetitions q s f ≡ pick (empty (field q s f)) 0 (length (split (q .repetition) (field q s f)))
-  unfolding repetitions apart
-  count-is = rw cut
+  count-split : repetitions q s f ≡ pick (empty (field q s f)) 0 (length (split (q .repetition) (field q s f)))
+  count-split = rw cut at (count-is q s f)
 
   pub split-count : repetitions q s f ≡ length (repetitionsIn q (field q s f))
-  split-count = count-is ∙ count-step (empty (field q s f)) (split (q .repetition) (field q s f))
+  split-count = count-split ∙ none-step (empty (field q s f)) (split (q .repetition) (field q s f))
 
   pub split-filled : (ls : List Leaf) → filledUpTo (entriesAt q s f ls) 1 (repetitions q s f) ≡ filledFrom 1 (entriesOf q ls) (repetitionsIn q (field q s f))
   split-filled ls =
-      rw count-is
+      rw count-split
       (or-none (empty (field q s f)) (entriesAt q s f ls) (entriesOf q ls) (split (q .repetition) (field q s f))
       (by-number 0 (entriesAt q s f ls) (entriesOf q ls) (split (q .repetition) (field q s f))
       (λ i l. let z : 0 + i ≡ i = omega arith in rw z (split-entries ls i))))

@@ -3,24 +3,24 @@ use mathlib.Core.Path.{_≡_, refl, sym, ap, _∙_}
 use Prim.Native.Nat.{ℕ, _+_}
 use native.Mathlib.Omega.{arith}
 use mathlib.Core.Bool.{Bool, true, false, _&&_}
-use mathlib.Core.List.{List, [], _∷_}
+use mathlib.Core.List.{[], _∷_}
 use lib.Seq.{take-length}
 use lib.Dec.{eqb}
 use Rattle.text.specs.Bytes.{Text, pick, empty}
 use Rattle.text.proofs.Tests.{not-true}
 use Rattle.text.specs.declared.marks.Marks.{Marks}
 use Rattle.text.specs.Marks.{marksOf}
-use Rattle.parts.specs.Split.{Located, whole, nothing}
-use Rattle.parts.specs.Descent.{Step, part, inField}
+use Rattle.parts.specs.Split.{Located, nothing}
+use Rattle.parts.specs.Descent.{inField}
 use Rattle.parts.specs.Span.{partText, partStart}
 use Rattle.parts.proofs.Split.{Stands, stands-in}
-use Rattle.parts.proofs.Descent.{part-stands, part-nil, part-text, part-start}
+use Rattle.parts.proofs.Descent.{part-stands, part-start}
 use Rattle.frame.specs.Segments.{occurrence, occurrenceOf, fieldOf, field, unsplit}
 use Rattle.frame.specs.Starts.{occurrenceStart, fieldStart}
 use Rattle.frame.proofs.Segments.{occurrence-stands, field-stands, field-text, field-start, field-nil}
 use Rattle.frame.proofs.Occurrences.{occurrence-text, occurrence-start}
 use Rattle.checks.specs.Place.{Place, oneLeaf, splitField, apart, leafOf, leafAt, standsAt, textAt}
-use Rattle.checks.proofs.Leaf.{leafText, leaf-is, leaf-text}
+use Rattle.checks.proofs.Leaf.{leafText, leaf-is, leaf-text, nil-leaf}
 use Rattle.checks.specs.Starts.{leafStart, startAt}
 use Rattle.checks.specs.Shown.{shown}
 use Rattle.checks.specs.LookUp.{found}
@@ -65,21 +65,13 @@ apart-start true q t r c b e = one-start (eqb r 1 && eqb c 1 && eqb b 1) t e
 apart-start false q t r c b e = part-start (inField q r c b) t e
 
 -- a leaf that has bytes is of a field that has some, and that of such a segment
-none : (h : Bool) → pick {A = Text} h [] [] ≡ []
-none true = refl
-none false = refl
-
-nil-step : (w : Bool) (q : Marks) (r c b : ℕ) → leafText w q [] r c b ≡ []
-nil-step true q r c b = none (eqb r 1 && eqb c 1 && eqb b 1)
-nil-step false q r c b = part-nil (inField q r c b)
-
 field-there : (w : Bool) (q : Marks) (x : Text) (r c b : ℕ) → empty (leafText w q x r c b) ≡ false → empty x ≡ false
-field-there w q [] r c b e = sym (ap empty (nil-step w q r c b)) ∙ e
+field-there w q [] r c b e = sym (ap empty (nil-leaf w q r c b)) ∙ e
 field-there w q (y ∷ x) r c b e = refl
 
 pub leaf-nil : (q : Marks) (f r c b : ℕ) → leafAt q [] f r c b ≡ []
 leaf-nil q f r c b =
-    leaf-is q [] f r c b ∙ ap (λ (x : Text). leafText (unsplit [] f) q x r c b) (field-nil q f) ∙ nil-step (unsplit [] f) q r c b
+    leaf-is q [] f r c b ∙ ap (λ (x : Text). leafText (unsplit [] f) q x r c b) (field-nil q f) ∙ nil-leaf (unsplit [] f) q r c b
 
 segment-there : (q : Marks) (s : Text) (f r c b : ℕ) → empty (leafAt q s f r c b) ≡ false → empty s ≡ false
 segment-there q [] f r c b e = sym (ap empty (leaf-nil q f r c b)) ∙ e
