@@ -12,7 +12,7 @@ use Rattle.text.specs.declared.marks.Marks.{Marks}
 use Rattle.text.proofs.Tests.{both, not-true as no}
 use Rattle.parts.specs.Split.{split, piece, front}
 use Rattle.parts.specs.Start.{start}
-use Rattle.parts.specs.Descent.{part}
+use Rattle.parts.specs.Span.{partText}
 use Rattle.parts.proofs.Split.{piece-le}
 use Rattle.parts.proofs.Descent.{within-piece}
 use Rattle.parts.proofs.Join.{split-one}

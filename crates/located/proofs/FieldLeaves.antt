@@ -22,7 +22,7 @@ use Rattle.profile.specs.Table.{Leaf}
 use Rattle.codes.specs.declared.rows.Rows.{Rows}
 use Rattle.codes.specs.Inner.{Lists, Ascends, IsField, leavesAt, leavesNamed}
 use Rattle.codes.proofs.OneField.{field-namer, leaves-plain, leaves-named}
-use Rattle.checks.specs.Place.{leafAt}
+use Rattle.checks.proofs.Leaf.{leaf-split}
 use Rattle.checks.specs.View.{namedIn}
 use Rattle.listing.specs.Listing.{HasNumber}
 use Rattle.located.specs.Listed.{leavesOfField}
@@ -96,8 +96,7 @@ module _ (q : Marks) (table : List ℕ) (s : Text) (k at end : ℕ) (is : IsFiel
 -- the type that a field names is its first leaf
 module _ (q : Marks) (table : List ℕ) (s : Text) (k : ℕ) (numbered : HasNumber s k) (namer : ℕ) (low : firstField k ≤ namer) where
   named-text : (x : Text) → x ≡ field q s namer → partText (inField q 1 1 1) x ≡ namedIn q s namer
-  unfolding leafAt
-  named-text x e = rw (field-split s k numbered namer low, ← e)
+  named-text x e = ap (partText (inField q 1 1 1)) e ∙ sym (leaf-split q s namer 1 1 1 (field-split s k numbered namer low))
 
   pub lists-type : (r : Rows) (x : Text) → x ≡ field q s namer → (e : ℕ) → within 0 e x ≡ partText (inField q 1 1 1) x → Lists table r (leavesNamed table (within 0 e x))
       → Lists table r (leavesNamed table (namedIn q s namer))
