@@ -23,7 +23,7 @@ use Rattle.reader.specs.Place.{Place, place, isPlace, textAt}
 use Rattle.reader.specs.Starts.{startAt}
 use Rattle.reader.specs.LookUp.{Empty, Text-from-to, found, tooFew, lookUpTests, lookUp}
 use Rattle.reader.specs.Fault.{checks, verdict, judge}
-use Rattle.reader.proofs.Stands.{text-stands}
+use Rattle.reader.proofs.Stands.{text-stands, found-is}
 use Rattle.reply.specs.Header.{headerLeaf, copiedHD}
 use Rattle.reply.specs.Reply.{replyText, reply}
 use Rattle.reader.specs.Observations.{observations, observationsFrom, observationsOf}
@@ -109,7 +109,7 @@ shown-by m t a false h =
     rw (e, h)
 
 shown-text : (m : Text) (p : Place) → shownFound m (found m p) ≡ pick (empty (textAt m p)) Shown.Empty (Shown.Bytes (textAt m p))
-shown-text m p = shown-by m (textAt m p) (startAt m p) (empty (textAt m p)) (text-stands m p)
+shown-text m p = ap (shownFound m) (found-is m p) ∙ shown-by m (textAt m p) (startAt m p) (empty (textAt m p)) (text-stands m p)
 
 -- 4. The answers
 module _ (T : Table) (ok : fit T ≡ true) (cs : hasCopies T ≡ true) (m : Text) (good : framed m ≡ true) where

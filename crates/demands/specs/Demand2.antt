@@ -24,8 +24,7 @@ use Rattle.reader.specs.declared.Found.the-variants as found
 use Rattle.reader.specs.declared.Verdict.{Verdict}
 use Rattle.reader.specs.declared.Verdict.the-variants.{Accepted, Fault}
 use Rattle.reader.specs.declared.search.LookedUp.{LookedUp}
-use Rattle.reader.specs.Place.{Place, textAt}
-use Rattle.reader.specs.Starts.{startAt}
+use Rattle.reader.specs.Place.{Place, standsAt, textAt}
 use Rattle.reader.specs.Fault.{checks, noneBroken, FirstBroken, condition}
 use Rattle.reader.specs.Told.{placeOf}
 use Rattle.text.specs.Part.{VeryPart}
@@ -54,8 +53,8 @@ pub record Wrote (t before after : Text) (n : ℕ) : Type 0 where
 -- A TEXT AT A PLACE of the lent message: it starts and ends where the text there does, has its bytes, at least one, and is that very
 -- part of the message's memory
 pub record Stands (m : RefT Text) (p : Place) (a e : ℕ) (part : RefT Text) : Type 0 where
-  pub start : a ≡ startAt (m .now) p
-  pub end : e ≡ startAt (m .now) p + length (textAt (m .now) p)
+  pub start : a ≡ standsAt (m .now) p .start
+  pub end : e ≡ a + length (textAt (m .now) p)
   pub bytes : part .now ≡ textAt (m .now) p
   pub not-empty : empty (part .now) ≡ false
   pub very-part : VeryPart part m a e

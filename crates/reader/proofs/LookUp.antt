@@ -31,7 +31,7 @@ use Rattle.checks.specs.LookUp.{Found, Empty, Text-from-to, shown, found, tooFe
 use Rattle.seek.specs.Inner.{leafFound}
 use Rattle.reader.specs.Told.{placeOf, foundOf}
 use Rattle.reader.specs.Inner.{Inside}
-use Rattle.checks.proofs.Stands.{text-stands}
+use Rattle.checks.proofs.Stands.{text-stands, found-is}
 use Rattle.checks.specs.Place.{Place, isPlace, textAt}
 use Rattle.checks.specs.Starts.{startAt}
 
@@ -48,7 +48,7 @@ text-inside : (m : Text) (p : Place) (a e : ℕ) → Text-from-to a e ≡ found 
 text-inside m p a e h =
     let k = startAt m p in
     let t = textAt m p in
-    let w = shown-step k a e t h in (
+    let w = shown-step k a e t (h ∙ found-is m p) in (
       omega (arith, w),
       omega (arith, w, ap length (text-stands m p), length-take (length t) (drop k m), length-drop k m),
     )
@@ -84,7 +84,7 @@ module _ (m : Text) (p : code.Place) where
   unfolding first textAt startAt
   looked-leaf r a e q f s h k g =
       let t = h ∙ s in
-      g ∙ rw (k, standing-text m n (p .occurrence) a e t, standing-enough m n (p .occurrence) a e t, standing-start m n (p .occurrence) a e t)
+      g ∙ rw (k, standing-text m n (p .occurrence) a e t, standing-enough m n (p .occurrence) a e t, found-is m (placeOf p), standing-start m n (p .occurrence) a e t)
 
   pub looked-inside : (r : Standing) (a e : ℕ) → r ≡ standing m n (p .occurrence) → Segment a e ≡ r → (a ≤ e) × (e ≤ length m)
   looked-inside r a e s h = standing-inside m n (p .occurrence) a e (h ∙ s)

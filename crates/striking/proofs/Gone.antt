@@ -18,6 +18,7 @@ use Rattle.parts.proofs.Members.{no-piece}
 use Rattle.frame.specs.Segments.{name, named, ofName, field, unsplit}
 use Rattle.profile.specs.Table.{Table, Leaf, isListed}
 use Rattle.reader.specs.Place.{leafAt}
+use Rattle.reader.proofs.Leaf.{leaf-split}
 use Rattle.reader.specs.Repetition.{leafIn}
 use Rattle.striking.specs.Strike.{rewritten, onlyIf, hasComponent, hasLeaf, strikeSubcomponent, strikeComponent, strikeRepetition, hasField, fieldLeaves, strikeSegment}
 use Rattle.striking.proofs.Shrink.{piece-rewritten}
@@ -48,9 +49,9 @@ module _ (T : Table) (q : Marks) (s : Text) (f r c b : ℕ) (h : hasLeaf (fieldL
   field-gone false t = part-nil (inField q r c b)
 
   pub leaf-struck-out : unsplit s f ≡ false → leafAt q (strikeSegment T q s) f r c b ≡ []
-  unfolding leafAt
   leaf-struck-out e =
-      rw (unsplit-struck T q s f, field-struck T q s f, e) (field-gone (hasField T (name s) f) (field q s f))
+      leaf-split q (strikeSegment T q s) f r c b (unsplit-struck T q s f ∙ e)
+      ∙ rw (field-struck T q s f, e) (field-gone (hasField T (name s) f) (field q s f))
 
 -- 3. A segment that the table does not name goes
 module _ (T : Table) (q : Marks) (n : Text) (unlisted : isListed T n ≡ false) where

@@ -21,7 +21,7 @@ use Rattle.striking.proofs.ByExample.{examples-hold, P5-changes, P6-cha
 use Rattle.striking.proofs.Kept.{name-struck}
 use Rattle.striking.proofs.Message.{L, segments-struck, begins, struck-nine, marks-struck}
 use Rattle.striking.proofs.Listed.{found-named, occurrence-struck, listed-text}
-use Rattle.reader.proofs.Copied.{leaf-none}
+use Rattle.reader.proofs.Stands.{leaf-nil}
 use Rattle.striking.proofs.Gone.{leaf-struck-out, none-left, splits}
 use Rattle.striking.proofs.Separators.{leaves}
 
@@ -58,7 +58,7 @@ module _ (T : Table) (msh : isListed T (bytes "MSH") ≡ true) (m : Text) (good 
       (found-named (p .name) (ofName (p .name) (segments m)) (all-kept (named (p .name)) (segments m)) (p .occurrence)) n))
   goes-by p false l e n =
       rw (segments-struck T m, none-left T q (p .name) l (segments m) (p .occurrence))
-      (leaf-none (marksOf (strike T m)) (p .field) (p .repetition) (p .component) (p .subcomponent))
+      (leaf-nil (marksOf (strike T m)) (p .field) (p .repetition) (p .component) (p .subcomponent))
 
 -- WHAT STRIKING DOES, by any table that lists the header
 striking : (T : Table) → isListed T (bytes "MSH") ≡ true → (m : Text) → framed m ≡ true → Striking T m

@@ -6,20 +6,15 @@ use Rattle.text.specs.Marks.{marksOf}
 use Rattle.escape.specs.Escape.{endsOutside, resolvedFrom, resolve}
 use Rattle.types.specs.Types.{digits, rest, twos}
 use Rattle.parts.specs.Split.{split, ended, led, join, closed, trimmed}
-use Rattle.parts.specs.Start.{before}
 use Rattle.parts.specs.Descent.{part}
-use Rattle.parts.specs.Span.{partStart}
-use Rattle.frame.specs.Segments.{field}
-use Rattle.frame.specs.Starts.{fieldStart, ahead}
+use Rattle.frame.specs.Segments.{countFrom, locatedSegments, occurrenceOf, fieldOf}
 use Rattle.frame.specs.Frame.{endsWithCR, frameTests}
 use Rattle.profile.specs.Table.{typeLeaves, gathered, rulesOf}
 use Rattle.profile.specs.Rows.{rows}
 use Rattle.profile.specs.Profile.{profile01}
-use Rattle.reader.specs.Place.{leafAt, repetitions, textAt}
-use Rattle.reader.specs.Starts.{leafStart, startAt}
+use Rattle.reader.specs.Place.{apart, leafAt, repetitions, standsAt, textAt}
 use Rattle.reader.specs.LookUp.{lookUp}
-use Rattle.reader.specs.View.{fieldSeen, segmentSeen, view}
-use Rattle.reader.specs.Repetition.{filledFrom}
+use Rattle.reader.specs.View.{filledUpTo, fieldSeen, segmentSeen, view}
 use Rattle.reader.specs.Fault.{walk, checks, firstBroken, verdict, judge}
 use Rattle.text.specs.Decimal.{digitsBefore}
 use Rattle.line.specs.Line.{faultLine, textLine}
@@ -32,5 +27,5 @@ use Rattle.slip.specs.Book.{file}
 use Rattle.book.specs.Read.{isSlipFrom, valueFrom, readSlip}
 
 unfoldable pub computing : Unit {0}
-unfolding flatMap every some keep same first marksOf endsOutside resolvedFrom resolve digits rest twos split before ended led join closed partText partStart fieldOf fieldStart ahead endsWithCR frameTests typeLeaves gathered rulesOf rows profile01 leafAt leafStart repetitions textAt startAt lookUp filledFrom fieldSeen segmentSeen view walk checks firstBroken verdict judge digitsBefore faultLine textLine trimmed copiedHD replyText reply observations observationsFrom slipOf slipText file isSlipFrom valueFrom readSlip
+unfolding flatMap every some keep same first marksOf endsOutside resolvedFrom resolve digits rest twos split ended led join closed part countFrom locatedSegments occurrenceOf fieldOf endsWithCR frameTests typeLeaves gathered rulesOf rows profile01 apart leafAt repetitions standsAt textAt lookUp filledUpTo fieldSeen segmentSeen view walk checks firstBroken verdict judge digitsBefore faultLine textLine trimmed copiedHD replyText reply observations observationsFrom slipOf slipText file isSlipFrom valueFrom readSlip
 computing = tt
