@@ -67,13 +67,13 @@ module _ (q : Marks) where
   ends-step false e x c t h = wrong-ends t
 
   -- behind a \
-  begun-ends : (u : Text) → endsOutside q begun u ≡ pick (isEscape (q .escape) u) (endsOutside q outside (drop 2 u)) false
+  pub begun-ends : (u : Text) → endsOutside q begun u ≡ pick (isEscape (q .escape) u) (endsOutside q outside (drop 2 u)) false
   unfolding endsOutside
   begun-ends [] = refl
   begun-ends (b ∷ []) = rw (letter-means q b) (open-step (isLetter b) (meant q b))
   begun-ends (b ∷ c ∷ t) = rw (letter-means q b) (ends-step (isLetter b) (eqb c (q .escape)) (meant q b) c t refl)
 
-  begun-resolved : (u : Text) → isEscape (q .escape) u ≡ true → resolvedFrom q begun u ≡ meant q (getD u 0 0) ∷ resolvedFrom q outside (drop 2 u)
+  pub begun-resolved : (u : Text) → isEscape (q .escape) u ≡ true → resolvedFrom q begun u ≡ meant q (getD u 0 0) ∷ resolvedFrom q outside (drop 2 u)
   unfolding resolvedFrom
   begun-resolved [] h = not-true h
   begun-resolved (b ∷ []) h = not-true h
@@ -94,20 +94,20 @@ pub record Goes (q : Marks) (t : Text) (i n b : ℕ) : Type 0 where
 
 -- the first byte is no \; it is one
 module _ (q : Marks) (b : ℕ) (u : Text) where
-  byte-ends : eqb b (q .escape) ≡ false → endsOutside q outside (b ∷ u) ≡ endsOutside q outside u
+  pub byte-ends : eqb b (q .escape) ≡ false → endsOutside q outside (b ∷ u) ≡ endsOutside q outside u
   unfolding endsOutside
   byte-ends h = ap (λ (x : Bool). endsOutside q (pick x begun outside) u) h
 
-  byte-reads : eqb b (q .escape) ≡ false → resolvedFrom q outside (b ∷ u) ≡ b ∷ resolvedFrom q outside u
+  pub byte-reads : eqb b (q .escape) ≡ false → resolvedFrom q outside (b ∷ u) ≡ b ∷ resolvedFrom q outside u
   unfolding resolvedFrom
   byte-reads h =
       ap (λ (x : Bool). pick x (resolvedFrom q (pick x begun outside) u) (b ∷ resolvedFrom q (pick x begun outside) u)) h
 
-  begin-ends : eqb b (q .escape) ≡ true → endsOutside q outside (b ∷ u) ≡ endsOutside q begun u
+  pub begin-ends : eqb b (q .escape) ≡ true → endsOutside q outside (b ∷ u) ≡ endsOutside q begun u
   unfolding endsOutside
   begin-ends h = ap (λ (x : Bool). endsOutside q (pick x begun outside) u) h
 
-  begin-reads : eqb b (q .escape) ≡ true → resolvedFrom q outside (b ∷ u) ≡ resolvedFrom q begun u
+  pub begin-reads : eqb b (q .escape) ≡ true → resolvedFrom q outside (b ∷ u) ≡ resolvedFrom q begun u
   unfolding resolvedFrom
   begin-reads h =
       ap (λ (x : Bool). pick x (resolvedFrom q (pick x begun outside) u) (b ∷ resolvedFrom q (pick x begun outside) u)) h

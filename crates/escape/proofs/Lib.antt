@@ -1,2 +1,5 @@
+pub mod Stops
+pub mod Cases
 pub mod Escapes
+pub mod Same
 pub mod Unique

@@ -1,3 +1,7 @@
+-- what entries promise
 pub mod Escape
-pub mod Step
 pub mod Promise
+-- inner
+pub mod Left
+pub mod Cases
+pub mod Step

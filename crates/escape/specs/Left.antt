@@ -1,0 +1,75 @@
+-- Inner: no entry's promise is made of this yet.
+-- Escapes: resolve turns \F\ \S\ \T\ \R\ \E\ into the five separators, read from the left; a \ that begins none of these is a bad
+-- escape. Here \ is the escape character of the marks q, whichever that is.
+use Prim.Native.Nat.{ℕ, zero, suc}
+use Prim.Native.String.{String}
+use mathlib.Core.Bool.{Bool, not, _&&_}
+use mathlib.Core.List.{List, [], _∷_, map}
+use lib.ListN.{length, getD, take}
+use lib.Dec.{eqb, ltb}
+use Rattle.text.specs.Bytes.{Text, pick, byte, same, some}
+use Rattle.text.specs.Answer.{Answer, Test, test, first}
+use Rattle.text.specs.declared.marks.Marks.{Marks}
+use Rattle.text.specs.declared.refusal.Refusal.the-variants.{NoRoom, BadEscape}
+
+-- an escape: its letter, and the separator that it is turned into
+pub record Escape : Type 0 where
+  pub letter : ℕ
+  pub separator : ℕ
+
+abbrev pub _into_ : String → ℕ → Escape
+_into_ l s = record { letter = byte l; separator = s }
+
+infix 60 _into_
+-- THE FIVE
+abbrev pub five : Marks → List Escape
+five q =
+    ("F" into q .field)
+    ∷ ("S" into q .component)
+    ∷ ("T" into q .subcomponent)
+    ∷ ("R" into q .repetition)
+    ∷ ("E" into q .escape)
+    ∷ []
+
+-- the text begins with that escape: three bytes are looked at, which are \, the letter and \ again
+abbrev pub begins : Marks → Text → Escape → Bool
+begins q t e = same (take 3 t) (q .escape ∷ e .letter ∷ q .escape ∷ [])
+
+-- the text begins with one of the five
+unfoldable pub isEscape : Marks → Text → Bool
+isEscape q t = some (begins q t) (five q)
+
+abbrev pub front : Text → ℕ
+front t = getD t 0 0
+
+-- the text begins with a \ that begins none of the five
+abbrev pub isBad : Marks → Text → Bool
+isBad q t = eqb (front t) (q .escape) && not (isEscape q t)
+
+-- what the text begins with stands for: the separator of an escape, and any other byte for itself
+unfoldable pub standsFor : Marks → List Escape → Text → ℕ
+standsFor q [] t = front t
+standsFor q (e ∷ es) t = pick (begins q t e) (e .separator) (standsFor q es t)
+
+-- READ FROM THE LEFT: the rest of the text at each byte that the reader comes to. The number is that of the bytes yet to be passed
+-- over: where one of the five begins, the two that follow its first.
+unfoldable pub stops : Marks → ℕ → Text → List Text
+stops q over [] = []
+stops q (suc over) (b ∷ t) = stops q over t
+stops q zero (b ∷ t) = (b ∷ t) ∷ stops q (pick (isEscape q (b ∷ t)) 2 0) t
+
+-- A BAD ESCAPE: the reader comes to one
+unfoldable pub badEscape : Marks → Text → Bool
+badEscape q t = some (isBad q) (stops q 0 t)
+
+-- THE TEXT RESOLVED, where it has no bad escape: what the reader comes to stands for
+unfoldable pub resolved : Marks → Text → Text
+resolved q t = map (standsFor q (five q)) (stops q 0 t)
+
+abbrev pub resolveTests : Marks → Text → ℕ → List Test
+resolveTests q t room =
+    test BadEscape (badEscape q t) ∷ test NoRoom (ltb room (length (resolved q t))) ∷ []
+
+-- RESOLVING into a lent buffer of that length: 20, then 14, or the bytes written
+unfoldable pub resolve : Marks → Text → ℕ → Answer Text
+resolve q t room = first (resolveTests q t room) (resolved q t)
