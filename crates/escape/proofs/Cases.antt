@@ -2,7 +2,7 @@
 use mathlib.Core.Path.{refl}
 use Rattle.text.specs.Bytes.{some, same}
 use Rattle.text.specs.Answer.{first}
-use Rattle.escape.specs.Left.{isEscape, standsFor, stops, badEscape, resolved, resolve}
+use Rattle.escape.specs.Escape.{isEscape, standsFor, stops, badEscape, resolved, resolve}
 use Rattle.escape.specs.Cases.{CasesHold}
 
 pub cases-hold : CasesHold

@@ -1,5 +1,3 @@
-pub mod Stops
 pub mod Cases
 pub mod Escapes
-pub mod Same
 pub mod Unique

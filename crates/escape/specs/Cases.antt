@@ -8,7 +8,7 @@ use Rattle.text.specs.Bytes.{Text, bytes}
 use Rattle.text.specs.Answer.{Answer, refused, given}
 use Rattle.text.specs.Marks.{usual}
 use Rattle.text.specs.declared.refusal.Refusal.the-variants.{BadEscape}
-use Rattle.escape.specs.Left.{resolve}
+use Rattle.escape.specs.Escape.{resolve}
 
 pub record Case : Type 0 where
   pub text : String

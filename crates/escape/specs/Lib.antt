@@ -2,6 +2,5 @@
 pub mod Escape
 pub mod Promise
 -- inner
-pub mod Left
 pub mod Cases
 pub mod Step
