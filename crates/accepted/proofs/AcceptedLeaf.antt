@@ -11,7 +11,7 @@ use borrow.Author.Tests.{le-ltb, ltb-true, ltb-false}
 use Rattle.text.specs.Bytes.{Text, pick, empty, some}
 use Rattle.text.specs.declared.marks.Marks.{Marks}
 use Rattle.text.specs.Marks.{marksOf}
-use Rattle.escape.specs.Escape.{badEscape, endsOutside}
+use Rattle.escape.specs.Escape.{badEscape}
 use Rattle.text.specs.Limits.{tooLong}
 use Rattle.text.proofs.Tests.{not-true, same-true}
 use Rattle.text.proofs.Lists.{All, all-map, all-both, all-keep, all-kept, every-all, some-mono, or-none}
@@ -23,6 +23,7 @@ use Rattle.checks.specs.Fault.{Check, leafChecks, repetitionChecks, startsFille
 use Rattle.parts.proofs.Members.{append-all, keep-step, keep-all, some-map, map-all, flatMap-all, member-all}
 use Rattle.checks.proofs.Leaf.{leaf-nought, leaf-beyond}
 use Rattle.checks.proofs.Filled.{late-numbers}
+use Rattle.escape.proofs.Escapes.{bad-none}
 use Rattle.accepted.proofs.Accepted.{accepted-none}
 
 -- 1. A leaf's rule
@@ -34,8 +35,7 @@ pub record Kept (q : Marks) (l : Leaf) (t : Text) : Type 0 where
 
 -- Empty keeps it
 empty-kept : (q : Marks) (l : Leaf) (t : Text) → empty t ≡ true → Kept q l t
-unfolding endsOutside
-empty-kept q l [] e = record { short = le-ltb (l .limit) 0 (omega arith); good = refl; typed = refl; coded = refl }
+empty-kept q l [] e = record { short = le-ltb (l .limit) 0 (omega arith); good = bad-none q; typed = refl; coded = refl }
 empty-kept q l (b ∷ t) e = not-true e
 
 -- in a filled repetition a starred one is not Empty

@@ -4,7 +4,7 @@ use mathlib.Core.List.{flatMap}
 use Rattle.text.specs.Bytes.{every, some, keep, same}
 use Rattle.text.specs.Answer.{first}
 use Rattle.text.specs.Marks.{marksOf}
-use Rattle.escape.specs.Escape.{endsOutside}
+use Rattle.escape.specs.Escape.{isEscape, stops, badEscape}
 use Rattle.types.specs.Types.{digits, rest, twos}
 use Rattle.parts.specs.Split.{split, ended, led, closed}
 use Rattle.parts.specs.Descent.{part}
@@ -20,7 +20,7 @@ use Rattle.checks.specs.LookUp.{lookUp}
 use Rattle.checks.specs.Cases.{CasesHold, PlaceBeforeSegment}
 
 pub cases-hold : CasesHold
-unfolding flatMap every some keep same marksOf endsOutside digits rest twos split ended led closed part fieldOf typeLeaves gathered rulesOf rows profile01 apart leafAt repetitions filledUpTo fieldSeen segmentSeen view walk checks firstBroken verdict
+unfolding flatMap every some keep same marksOf isEscape stops badEscape digits rest twos split ended led closed part fieldOf typeLeaves gathered rulesOf rows profile01 apart leafAt repetitions filledUpTo fieldSeen segmentSeen view walk checks firstBroken verdict
 cases-hold = refl
 
 pub place-before-segment : PlaceBeforeSegment

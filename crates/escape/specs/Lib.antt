@@ -1,3 +1,6 @@
+-- what entries promise
 pub mod Escape
-pub mod Step
 pub mod Promise
+-- inner
+pub mod Cases
+pub mod Step

@@ -1,3 +1,4 @@
+-- An entry's promise is made of this.
 -- What the calls that write into a lent buffer promise.
 use mathlib.Core.Path.{_≡_}
 use lib.ListN.{length}

@@ -8,11 +8,12 @@ use lib.ListN.{length, getD, drop}
 use lib.Seq.{getD-drop}
 use borrow.Author.Tests.{eq-eqb, ne-eqb, lt-ltb, le-ltb}
 use Rattle.text.specs.Bytes.{Text, empty}
-use Rattle.escape.specs.Escape.{endsOutside, badEscape}
+use Rattle.escape.specs.Escape.{badEscape}
 use Rattle.text.specs.declared.marks.Marks.{Marks}
 use Rattle.text.proofs.Tests.{empty-none, empty-some}
 use Rattle.profile.specs.Table.{ofType, among}
 use Rattle.profile.specs.Numbers.{leafOf, simpleOf, codesOf, limitColumn, listColumn, reasonColumn, starColumn, typeColumn}
+use Rattle.escape.proofs.Escapes.{bad-none}
 use Rattle.codes.proofs.Numbered.{other-type}
 use Rattle.checks.specs.Place.{Place}
 use Rattle.checks.specs.Fault.{Verdict, accepted, fault, check, leafChecks, firstBroken}
@@ -20,8 +21,7 @@ use Rattle.leaves.specs.Judged.{told}
 
 -- no bytes, no escape
 no-escape : (q : Marks) (s : Text) → length s ≡ 0 → badEscape q s ≡ false
-unfolding endsOutside
-no-escape q [] e = refl
+no-escape q [] e = bad-none q
 no-escape q (b ∷ s) e = absurd (omega arith)
 
 module _ (q : Marks) (table : List ℕ) (at : ℕ) (s : Text) where

@@ -3,7 +3,7 @@ use mathlib.Core.List.{flatMap}
 use Rattle.text.specs.Bytes.{every, some, keep, same}
 use Rattle.text.specs.Answer.{first}
 use Rattle.text.specs.Marks.{marksOf}
-use Rattle.escape.specs.Escape.{endsOutside, resolvedFrom, resolve}
+use Rattle.escape.specs.Escape.{isEscape, standsFor, stops, badEscape, resolved, resolve}
 use Rattle.types.specs.Types.{digits, rest, twos}
 use Rattle.parts.specs.Split.{split, ended, led, join, closed, trimmed}
 use Rattle.parts.specs.Descent.{part}
@@ -27,5 +27,5 @@ use Rattle.slip.specs.Book.{file}
 use Rattle.book.specs.Read.{isSlipFrom, valueFrom, readSlip}
 
 unfoldable pub computing : Unit {0}
-unfolding flatMap every some keep same first marksOf endsOutside resolvedFrom resolve digits rest twos split ended led join closed part countFrom locatedSegments occurrenceOf fieldOf endsWithCR frameTests typeLeaves gathered rulesOf rows profile01 apart leafAt repetitions standsAt textAt lookUp filledUpTo fieldSeen segmentSeen view walk checks firstBroken verdict judge digitsBefore faultLine textLine trimmed copiedHD replyText reply observations observationsFrom slipOf slipText file isSlipFrom valueFrom readSlip
+unfolding flatMap every some keep same first marksOf isEscape standsFor stops badEscape resolved resolve digits rest twos split ended led join closed part countFrom locatedSegments occurrenceOf fieldOf endsWithCR frameTests typeLeaves gathered rulesOf rows profile01 apart leafAt repetitions standsAt textAt lookUp filledUpTo fieldSeen segmentSeen view walk checks firstBroken verdict judge digitsBefore faultLine textLine trimmed copiedHD replyText reply observations observationsFrom slipOf slipText file isSlipFrom valueFrom readSlip
 computing = tt
