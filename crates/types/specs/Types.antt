@@ -70,7 +70,7 @@ zone = 0 to 14 ∷ 0 to 59 ∷ []
 
 -- nothing, or a sign and HHMM
 abbrev pub isZone : Text → Bool
-isZone t = empty t || begins sign t && eqb (length t) 5 && every digit (drop 1 t) && twos zone (drop 1 t)
+isZone t = empty t || (begins sign t && eqb (length t) 5 && every digit (drop 1 t) && twos zone (drop 1 t))
 
 -- a point, one to four digits, and the zone
 abbrev pub isFraction : Text → Bool
@@ -81,14 +81,14 @@ abbrev pub isDTM : Text → Bool
 isDTM t =
     leb 4 (length (digits t))
     && twos calendar (drop 4 (digits t))
-    && (isZone (rest t) || eqb (length (digits t)) 14 && isFraction (rest t))
+    && (isZone (rest t) || (eqb (length (digits t)) 14 && isFraction (rest t)))
 
 -- TM: HH[MM[SS[.S[S[S[S]]]]]] and the zone
 abbrev pub isTM : Text → Bool
 isTM t =
     leb 2 (length (digits t))
     && twos clock (digits t)
-    && (isZone (rest t) || eqb (length (digits t)) 6 && isFraction (rest t))
+    && (isZone (rest t) || (eqb (length (digits t)) 6 && isFraction (rest t)))
 
 -- how many digits a stamp has, and the greatest length of a reply number
 abbrev pub stampSize : ℕ
