@@ -1,3 +1,4 @@
+-- An entry's promise is made of this.
 -- Reading a slip: 17 to 19, or the tag's value as that part of the book.
 use Prim.Native.Nat.{ℕ, _+_}
 use mathlib.Core.Bool.{Bool, true, false, not, _&&_}

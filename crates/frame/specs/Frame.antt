@@ -1,3 +1,4 @@
+-- An entry's promise is made of this.
 -- What the frame must be: eight tests, in order.
 use Prim.Native.Nat.{ℕ}
 use mathlib.Core.Bool.{Bool, true, false, not, _&&_, _||_}

@@ -1,3 +1,4 @@
+-- An entry's promise is made of this.
 -- The segments of a message, their names and their fields.
 use Prim.Native.Nat.{ℕ, zero, suc, _+_}
 use mathlib.Core.Bool.{Bool, false, _&&_}

@@ -1,3 +1,4 @@
+-- An entry's promise is made of this.
 -- The reply to a message: its exact bytes, or the first refusal.
 use Prim.Native.Nat.{ℕ}
 use mathlib.Core.Bool.{Bool, not, _||_}

@@ -1,3 +1,4 @@
+-- An entry's promise is made of this.
 -- The reply's code for a verdict, and its ERR: the place and the condition of a fault.
 use Prim.Native.Nat.{ℕ}
 use mathlib.Core.List.{List, [], _∷_}

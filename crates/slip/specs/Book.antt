@@ -1,3 +1,4 @@
+-- An entry's promise is made of this.
 -- Filing a group's slip in a slot of the book: 1 to 8, 15 to 17, or the slip filed.
 use Prim.Native.Nat.{ℕ, _+_}
 use mathlib.Core.Bool.{Bool, true, false, not, _||_}

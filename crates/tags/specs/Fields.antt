@@ -1,3 +1,4 @@
+-- An entry's promise is made of this.
 -- The fields of a slip: five of text, then the count, then zeros.
 use Prim.Native.Nat.{ℕ, _+_, _*_}
 use mathlib.Core.Bool.{Bool, _&&_}

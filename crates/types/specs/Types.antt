@@ -1,3 +1,4 @@
+-- An entry's promise is made of this.
 -- What a text of a simple type looks like, and what a stamp and a reply number are.
 use Prim.Native.Nat.{ℕ, _+_, _*_, _-_}
 use mathlib.Core.Bool.{Bool, true, false, _&&_, _||_}
