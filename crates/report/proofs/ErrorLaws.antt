@@ -43,7 +43,7 @@ digits-filled (suc k) n t h =
     let d = (byte "0" + n % 10) ∷ t in
     filled-step (ltb n 10) d (digitsBefore k (n / 10) d) refl (digits-filled k (n / 10) d refl)
 
-digits-some : (k n : ℕ) (t : Text) → empty (digitsBefore (suc k) n t) ≡ false
+pub digits-some : (k n : ℕ) (t : Text) → empty (digitsBefore (suc k) n t) ≡ false
 unfolding digitsBefore
 digits-some k n t =
     let d = (byte "0" + n % 10) ∷ t in

@@ -1,9 +1,10 @@
 -- An entry's promise is made of this.
 -- The reply's code for a verdict, and its ERR: the place and the condition of a fault.
 use Prim.Native.Nat.{ℕ}
-use mathlib.Core.List.{List, [], _∷_}
+use mathlib.Core.Bool.{_&&_}
+use mathlib.Core.List.{List, [], _∷_, map}
 use lib.Dec.{eqb, ltb}
-use Rattle.text.specs.Bytes.{Text, pick, bytes}
+use Rattle.text.specs.Bytes.{Text, pick, bytes, empty}
 use Rattle.text.specs.Decimal.{decimal}
 use Rattle.text.specs.Marks.{usual}
 use Rattle.parts.specs.Split.{join, trimmed}
@@ -35,6 +36,17 @@ placeText p =
     ∷ orNone (p .subcomponent)
     ∷ []))
 
+-- the same with the zeros left off the numbers before they are written, so that no other zero is lost
+unfoldable pub withoutTrailingZeros : List ℕ → List ℕ
+withoutTrailingZeros [] = []
+withoutTrailingZeros (n ∷ ns) = let r = withoutTrailingZeros ns in pick (eqb n 0 && empty r) [] (n ∷ r)
+
+abbrev pub placeNumbers : Place → List ℕ
+placeNumbers p = p .occurrence ∷ p .field ∷ p .repetition ∷ p .component ∷ p .subcomponent ∷ []
+
+abbrev pub placeWritten : Place → Text
+placeWritten p = join (usual .component) (p .name ∷ map decimal (withoutTrailingZeros (placeNumbers p)))
+
 -- table 0357
 abbrev pub conditionText : ℕ → Text
 conditionText k =
@@ -45,6 +57,18 @@ conditionText k =
     (pick (eqb k 200) (bytes "Unsupported message type")
     (pick (eqb k 201) (bytes "Unsupported event code")
     (pick (eqb k 202) (bytes "Unsupported processing id") (bytes "Unsupported version id")))))))
+
+-- the same with each condition named, and no text for any other
+abbrev pub conditionTextNamed : ℕ → Text
+conditionTextNamed k =
+    pick (eqb k 100) (bytes "Segment sequence error")
+    (pick (eqb k 101) (bytes "Required field missing")
+    (pick (eqb k 102) (bytes "Data type error")
+    (pick (eqb k 103) (bytes "Table value not found")
+    (pick (eqb k 200) (bytes "Unsupported message type")
+    (pick (eqb k 201) (bytes "Unsupported event code")
+    (pick (eqb k 202) (bytes "Unsupported processing id")
+    (pick (eqb k 203) (bytes "Unsupported version id") [])))))))
 
 -- an ERR for a fault
 abbrev pub replyERR : Verdict → List Text
