@@ -1,5 +1,5 @@
 -- What holds of each check of a message, and so of its fault, by tests on the table's fields and leaves and by what holds of the segments' names.
-use mathlib.Core.Path.{_≡_, refl}
+use mathlib.Core.Path.{_≡_}
 use Prim.Native.Nat.{ℕ, suc}
 use mathlib.Core.Bool.{Bool, true, _&&_}
 use mathlib.Core.List.{List, [], _∷_, map, flatMap}
@@ -51,7 +51,7 @@ module _ (F : ℕ → Bool) (L : Leaf → Bool) where
   EntryPasses e = L (e .leaf) ≡ true
 
   abbrev RepetitionPasses : Repetition → Type 0
-  RepetitionPasses r = All EntryPasses (r .entries) × ((i : ℕ) × (r .number ≡ suc i))
+  RepetitionPasses r = All EntryPasses (r .entries)
 
   abbrev FieldPasses : Field → Type 0
   FieldPasses v = (F (v .rule .field) ≡ true) × All RepetitionPasses (v .filled)
@@ -63,12 +63,12 @@ module _ (F : ℕ → Bool) (L : Leaf → Bool) where
   named-leaves (x ∷ xs) otherwise t a h =
       picks Leaves (same (x .type) t) (every-all L (x .leaves) (a .0)) (named-leaves xs otherwise t (a .1) h)
 
-  filled-pass : (k : ℕ) (read : Text → List Entry) (ts : List Text) → ((t : Text) → All EntryPasses (read t)) → All RepetitionPasses (filledFrom (suc k) read ts)
+  filled-pass : (k : ℕ) (read : Text → List Entry) (ts : List Text) → ((t : Text) → All EntryPasses (read t)) → All RepetitionPasses (filledFrom k read ts)
   unfolding filledFrom
   filled-pass k read [] h = tt
   filled-pass k read (t ∷ ts) h =
       let rest = filled-pass (suc k) read ts h in
-      picks (All RepetitionPasses) (isFilled (read t)) ((h t, (k, refl)), rest) rest
+      picks (All RepetitionPasses) (isFilled (read t)) (h t, rest) rest
 
   module _ (T : Table) (ok : tablePasses T ≡ true) where
     parts : (every rowPasses (T .rows) ≡ true) × ((every typePasses (T .types) ≡ true) × (every L (T .otherwise) ≡ true))
@@ -105,7 +105,7 @@ module _ (F : ℕ → Bool) (L : Leaf → Bool) where
         let ls = leavesOf T (namedIn q s) u in
         let w = unsplit s (u .field) in (
           h .1,
-          filled-pass 0 (entriesOf q w ls) (repetitions q s (u .field))
+          filled-pass 1 (entriesOf q w ls) (repetitions q s (u .field))
               (λ t.
               all-made-of (λ l. L l ≡ true) EntryPasses (λ (l : Leaf). record { leaf = l; text = leafIn q w t (l .component) (l .subcomponent) })
               (λ l e. e) ls (leaves-pass (namedIn q s) u h)),
@@ -120,11 +120,11 @@ module _ (F : ℕ → Bool) (L : Leaf → Bool) where
     pub record Kinds : Type 0 where
       pub out-of-place : (n : Text) (o : ℕ) → N n → C (place n o 0 0 0 0) 1
       pub end : (n : Text) (o : ℕ) → N n → C (place n o 0 0 0 0) 2
-      pub missing : (n : Text) (o f : ℕ) → N n → F f ≡ true → C (place n (suc o) f 1 0 0) 3
-      pub surplus : (n : Text) (o f r : ℕ) → N n → F f ≡ true → C (place n (suc o) f (suc r) 0 0) 4
+      pub missing : (n : Text) (o f : ℕ) → N n → F f ≡ true → C (place n o f 1 0 0) 3
+      pub surplus : (n : Text) (o f r : ℕ) → N n → F f ≡ true → C (place n o f r 0 0) 4
       pub leaf :
           (n : Text) (o f r : ℕ) (l : Leaf) → N n → F f ≡ true → L l ≡ true
-          → All (C (place n (suc o) f (suc r) (l .component) (l .subcomponent))) (3 ∷ 5 ∷ 6 ∷ 7 ∷ l .reason ∷ [])
+          → All (C (place n o f r (l .component) (l .subcomponent))) (3 ∷ 5 ∷ 6 ∷ 7 ∷ l .reason ∷ [])
 
     abbrev Holds : Check → Type 0
     Holds c = C (c .place) (c .reason)
@@ -133,21 +133,21 @@ module _ (F : ℕ → Bool) (L : Leaf → Bool) where
     SegmentPasses s = N (s .name) × All FieldPasses (s .fields)
 
     module _ (k : Kinds) (q : Marks) where
-      repetition-all : (n : Text) (o f : ℕ) → N n → F f ≡ true → (r : Repetition) → RepetitionPasses r → All Holds (repetitionChecks q n (suc o) f r)
+      repetition-all : (n : Text) (o f : ℕ) → N n → F f ≡ true → (r : Repetition) → RepetitionPasses r → All Holds (repetitionChecks q n o f r)
       repetition-all n o f h g r a =
           let made : Entry → List Check =
-          λ e. leafChecks q (place n (suc o) f (r .number) (e .leaf .component) (e .leaf .subcomponent)) (e .leaf) (e .text) in
+          λ e. leafChecks q (place n o f (r .number) (e .leaf .component) (e .leaf .subcomponent)) (e .leaf) (e .text) in
           all-flatMap Holds made (r .entries)
-          (all-map EntryPasses (λ e. All Holds (made e)) (λ e x. rw (a .1 .1) (k .leaf n o f (a .1 .0) (e .leaf) h g x)) (r .entries) (a .0))
+          (all-map EntryPasses (λ e. All Holds (made e)) (λ e. k .leaf n o f (r .number) (e .leaf) h g) (r .entries) a)
 
-      field-all : (n : Text) (o : ℕ) → N n → (vs : List Field) (v : Field) → FieldPasses v → All Holds (fieldChecks q n (suc o) vs v)
+      field-all : (n : Text) (o : ℕ) → N n → (vs : List Field) (v : Field) → FieldPasses v → All Holds (fieldChecks q n o vs v)
       field-all n o h vs v a =
           let f = v .rule .field in (
-            k .surplus n o f (v .rule .repetitions) h (a .0),
+            k .surplus n o f (suc (v .rule .repetitions)) h (a .0),
             (
               k .missing n o f h (a .0),
-              all-flatMap Holds (repetitionChecks q n (suc o) f) (v .filled)
-                  (all-map RepetitionPasses (λ r. All Holds (repetitionChecks q n (suc o) f r)) (repetition-all n o f h (a .0)) (v .filled) (a .1)),
+              all-flatMap Holds (repetitionChecks q n o f) (v .filled)
+                  (all-map RepetitionPasses (λ r. All Holds (repetitionChecks q n o f r)) (repetition-all n o f h (a .0)) (v .filled) (a .1)),
             ),
           )
 
@@ -160,7 +160,7 @@ module _ (F : ℕ → Bool) (L : Leaf → Bool) where
             k .out-of-place n o (a .0 .0),
             all-append Holds (flatMap (fieldChecks q n o (s .fields)) (s .fields)) (walk T q (n ∷ ns) n ss)
                 (all-flatMap Holds (fieldChecks q n o (s .fields)) (s .fields)
-                (all-map FieldPasses (λ v. All Holds (fieldChecks q n o (s .fields) v)) (field-all n (count n ns) (a .0 .0) (s .fields)) (s .fields) (a .0 .1)))
+                (all-map FieldPasses (λ v. All Holds (fieldChecks q n o (s .fields) v)) (field-all n o (a .0 .0) (s .fields)) (s .fields) (a .0 .1)))
                 (walk-all T (n ∷ ns) n ss (a .0 .0) (a .1)),
           )
 

@@ -1,6 +1,5 @@
 pub mod EachCheck
 pub mod Reasons
-pub mod Zeros
 pub mod Accepted
 pub mod AcceptedLeaf
 pub mod AcceptedRows

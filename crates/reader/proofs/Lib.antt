@@ -4,8 +4,6 @@ pub use Rattle.checks.proofs.Stands
 pub use Rattle.checks.proofs.Filled
 pub use Rattle.accepted.proofs.EachCheck
 pub use Rattle.accepted.proofs.Reasons
-pub use Rattle.accepted.proofs.Zeros
-pub use Rattle.checks.proofs.Conditions
 pub use Rattle.accepted.proofs.Accepted
 pub use Rattle.accepted.proofs.AcceptedRows
 pub use Rattle.accepted.proofs.Plain

@@ -1,2 +1,1 @@
 pub mod ErrorLaws
-pub mod Agrees
