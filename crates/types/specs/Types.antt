@@ -105,9 +105,3 @@ isStamp t = eqb (length t) stampSize && every digit t && isDTM t
 -- a reply number: 1 to 20 capitals or digits
 abbrev pub isReplyNumber : Text → Bool
 isReplyNumber t = isWithin (1 to mostReplyNumber) (length t) && every capitalOrDigit t
-
--- ranges from a list of low, high, low, high
-unfoldable pub rangesOf : List ℕ → List Range
-rangesOf [] = []
-rangesOf (a ∷ []) = []
-rangesOf (a ∷ b ∷ l) = a to b ∷ rangesOf l
