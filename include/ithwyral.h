@@ -65,7 +65,7 @@ enum ithwyral_refusal {
 /* Where the numbers stand in `out` of ithwyral_judge. */
 enum {
     ITHWYRAL_REASON = 0,    /* 0: accepted; 1 to 12: why not */
-    ITHWYRAL_CONDITION = 1, /* the condition code, 100 to 103 or 200 to 203 */
+    ITHWYRAL_CONDITION = 1, /* the reason's condition code, 100 to 103 or 200 to 203; 0: there is no reason */
     ITHWYRAL_NAME = 2,      /* three numbers, each a byte of the segment's name */
     ITHWYRAL_OCCURRENCE = 5,
     ITHWYRAL_FIELD = 6,

@@ -1,3 +1,4 @@
+-- The desk's programs promise this.
 -- A number as a program is asked for it: digits, from the left.
 use Prim.Native.Nat.{ℕ, _+_, _*_, _-_, min}
 use mathlib.Core.Bool.{_||_, not}

@@ -18,10 +18,10 @@ use Rattle.slip.specs.Slot.{slotSize, slotStart, noSlot}
 use Rattle.book.specs.declared.Value.{Value}
 use Rattle.book.specs.declared.Value.the-variants as code
 use Rattle.tags.specs.declared.Field.the-variants as field
-use Rattle.tags.specs.Fields.{placerTag, countTag, headSize, countSize, longestField, mostOf, fieldOf, size, hasTag, Expected, expect, taken, isSlipFrom}
+use Rattle.tags.specs.Fields.{placerTag, countTag, headSize, countSize, mostOf, fieldOf, size, hasTag, Expected, expect, taken, isSlipFrom}
 use Rattle.book.specs.Read.{expected, isSlip, Part, valueFrom, isNone, orNothing, readSlip}
 use Rattle.book.specs.Told.{valueOf}
-use Rattle.tags.specs.Inner.{ReadsTag}
+use Rattle.tags.specs.Inner.{longestField, ReadsTag}
 use Rattle.book.specs.Inner.{readIn}
 
 -- the fields of n tags from k on

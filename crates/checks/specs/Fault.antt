@@ -5,14 +5,14 @@ use mathlib.Core.Path.{_≡_}
 use mathlib.Core.Bool.{Bool, true, false, not, _&&_}
 use mathlib.Core.List.{List, [], _∷_, _++_, flatMap}
 use lib.ListN.{length}
-use lib.Dec.{eqb, ltb}
+use lib.Dec.{eqb}
 use Rattle.text.specs.Bytes.{Text, pick, empty, some, keep, same}
 use Rattle.text.specs.Answer.{Answer, first}
 use Rattle.text.specs.First.{none, First}
 use Rattle.text.specs.declared.marks.Marks.{Marks}
 use Rattle.text.specs.Marks.{marksOf}
 use Rattle.escape.specs.Escape.{badEscape}
-use Rattle.text.specs.Limits.{tooLong}
+use Rattle.text.specs.Limits.{tooLong, _to_, isWithin}
 use Rattle.frame.specs.Frame.{frameTests}
 use Rattle.profile.specs.Table.{Table, Leaf, Usage, O, R, C, ofType, among, mayFollow, mayEnd}
 use Rattle.checks.specs.Place.{Place, place}
@@ -112,8 +112,14 @@ verdict T m = firstBroken (checks T m)
 unfoldable pub judge : Table → Text → Answer Verdict
 judge T m = first (frameTests m) (verdict T m)
 
--- the condition code of a reason
+-- THE CONDITION CODE of a reason: 1, 2 are 100; 3 is 101; 4 to 7 are 102; 8 is 103; 9 to 12 are 200 to 203. Any other number is no reason and has none: 0
 abbrev pub condition : ℕ → ℕ
 condition n =
-    pick (ltb n 3) 100 (pick (eqb n 3) 101 (pick (ltb n 8) 102 (pick (eqb n 8) 103
-    (pick (eqb n 9) 200 (pick (eqb n 10) 201 (pick (eqb n 11) 202 203))))))
+    pick (isWithin (1 to 2) n) 100
+    (pick (eqb n 3) 101
+    (pick (isWithin (4 to 7) n) 102
+    (pick (eqb n 8) 103
+    (pick (eqb n 9) 200
+    (pick (eqb n 10) 201
+    (pick (eqb n 11) 202
+    (pick (eqb n 12) 203 0)))))))

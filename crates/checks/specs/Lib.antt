@@ -1,11 +1,11 @@
--- what entries promise
+-- An entry's promise is made of these.
 pub mod Place
 pub mod Shown
 pub mod LookUp
 pub mod View
 pub mod Fault
--- inner
+-- No entry's promise is made of this: it tries the definitions.
+pub mod Cases
+-- Inner: no entry's promise is made of these.
 pub mod Starts
 pub mod Repetition
--- tries the definitions
-pub mod Cases

@@ -18,7 +18,14 @@ abbrev pub tooFew : Text → Place → Bool
 tooFew m p = fewer m (p .name) (p .occurrence)
 
 abbrev pub lookUpTests : Text → Place → List Test
-lookUpTests m p = frameTests m ++ (test BadPlace (not (isPlace p)) ∷ test NoSegment (tooFew m p) ∷ [])
+lookUpTests m p =
+    -- 1 to 8
+    frameTests m
+    -- 9 BAD PLACE: asked name not of the form; occurrence not 1..512; field, component or subcomponent not 1..255; repetition not 1..65,535
+    ++ (test BadPlace (not (isPlace p))
+    -- 10 NO SEGMENT: fewer segments of that name
+    ∷ test NoSegment (tooFew m p)
+    ∷ [])
 
 -- THE LOOK-UP
 unfoldable pub lookUp : Text → Place → Answer Found

@@ -1,4 +1,4 @@
--- Inner: no entry's promise is made of this.
+-- No entry's promise is made of this: it tries the definitions.
 -- Short texts with escapes, each the shortest that a wrong reading of 01 would resolve otherwise.
 use Prim.Native.String.{String}
 use mathlib.Core.Path.{_≡_}

@@ -1,6 +1,7 @@
--- what entries promise
+-- An entry's promise is made of these.
 pub mod Escape
 pub mod Promise
--- inner
+-- No entry's promise is made of this: it tries the definitions.
 pub mod Cases
+-- Inner: no entry's promise is made of this.
 pub mod Step

@@ -1,6 +1,6 @@
--- what entries promise
+-- An entry's promise is made of these.
 pub mod Segments
 pub mod Frame
-pub mod Told
--- inner
+-- Inner: no entry's promise is made of these.
 pub mod Starts
+pub mod Told

@@ -1,3 +1,4 @@
+-- An entry's promise is made of this.
 -- The reply's header: its exact bytes, of the message's own header, a stamp and a reply number.
 use Prim.Native.Nat.{ℕ}
 use mathlib.Core.Bool.{_||_}

@@ -1,3 +1,4 @@
+-- The desk's programs promise this.
 -- A slip's bytes as they are printed: two hexadecimal digits each, sixteen bytes to a line.
 use Prim.Native.Nat.{ℕ, suc, _+_, _-_, _/_, _%_}
 use mathlib.Core.List.{[], _∷_, _++_}

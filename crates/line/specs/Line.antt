@@ -1,3 +1,4 @@
+-- The desk's programs promise this.
 -- What the desk's programs print, one line an answer.
 use Prim.Native.Nat.{ℕ}
 use mathlib.Core.List.{List, [], _∷_, _++_}

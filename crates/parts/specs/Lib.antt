@@ -1,6 +1,6 @@
--- what entries promise
+-- An entry's promise is made of these.
 pub mod Split
 pub mod Descent
--- inner
+-- Inner: no entry's promise is made of these.
 pub mod Start
 pub mod Span

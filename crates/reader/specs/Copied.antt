@@ -1,4 +1,5 @@
--- Where a segment stands, and what copying one of its leaves takes. Only inner functions ask and promise it.
+-- Inner: no entry's promise is made of this.
+-- Where a segment stands, and what copying one of its leaves takes.
 use Prim.Native.Nat.{ℕ, _+_, _≤_}
 use mathlib.Core.List.{[]}
 use lib.ListN.{length}

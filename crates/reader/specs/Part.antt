@@ -1,3 +1,4 @@
+-- An entry's promise is made of this.
 -- The very part of the message that a look-up answers with. (The very part of lent bytes is text's own.)
 use Prim.Native.Nat.{ℕ}
 pub use Rattle.text.specs.Part.{VeryPart, SamePart}

@@ -1,3 +1,4 @@
+-- An entry's promise is made of this.
 -- What each case of an answer tells: 01's number and values.
 use mathlib.Core.List.{[], _∷_}
 use Rattle.text.specs.Answer.{Answer, refused, given}

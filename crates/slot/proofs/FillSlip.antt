@@ -13,7 +13,8 @@ use Rattle.text.proofs.Tests.{empty-none, empty-some}
 use Rattle.text.proofs.Lists.{drop-replicate}
 use Rattle.text.proofs.Puts.{puts-length, puts-none, puts-one, puts-both, puts-front}
 use Rattle.escape.proofs.Escapes.{resolved-length}
-use Rattle.tags.specs.Fields.{countTag, longestText, headSize, countSize, longestField}
+use Rattle.tags.specs.Fields.{countTag, longestText, headSize, countSize}
+use Rattle.tags.specs.Inner.{longestField}
 use Rattle.slot.specs.Slot.{tagged, twoBytes, tagBytes, slotSize, slipOf}
 use Rattle.slot.specs.Inner.{Takes, valuesOf}
 

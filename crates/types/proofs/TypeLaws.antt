@@ -10,7 +10,8 @@ use lib.ListN.{length, getD, take, drop, drop-of-length-le, length-drop}
 use lib.Seq.{drop-cons}
 use lib.Dec.{eqb, leb, ltb, eqb·zero-suc, eqb·suc-suc}
 use Rattle.text.specs.Bytes.{Text, pick, digit, empty, every}
-use Rattle.types.specs.Types.{digits, rest, begins, two, twos, rangesOf}
+use Rattle.types.specs.Types.{digits, rest, begins, two, twos}
+use Rattle.types.specs.Inner.{rangesOf}
 use Rattle.text.specs.Limits.{Range, _to_, isWithin}
 use Rattle.text.proofs.Tests.{both}
 use Rattle.text.proofs.Lists.{every-drop, part-rest, drop-take}

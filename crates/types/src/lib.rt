@@ -4,7 +4,8 @@ ghost use mathlib.Core.Path.{_≡_};
 ghost use Prim.Native.Nat.{_≤_};
 ghost use lib.ListN.{length};
 ghost use Rattle.text.specs.Bytes.{digit, every};
-ghost use Rattle.types.specs.Types.{behindPoint, digits, isDTM, isDecimals, isFraction, isNM, isReplyNumber, isSI, isStamp, isTM, isUnsigned, isZone, rangesOf, sign, twos};
+ghost use Rattle.types.specs.Types.{behindPoint, digits, isDTM, isDecimals, isFraction, isNM, isReplyNumber, isSI, isStamp, isTM, isUnsigned, isZone, sign, twos};
+ghost use Rattle.types.specs.Inner.{rangesOf};
 use text::is_capital_or_digit;
 use text::is_digit;
 
