@@ -2,7 +2,8 @@
 use Prim.Native.Nat.{ℕ}
 use mathlib.Core.Bool.{true, false}
 use mathlib.Core.List.{List, [], _∷_}
-use Rattle.profile.specs.Table.{Simple, NM, DTM, ST, ID, IS, limitOf, any, Leaf}
+use Rattle.profile.specs.Table.{Simple, NM, DTM, ST, ID, IS, any, Leaf}
+use Rattle.profile.specs.Limits.{limitOf}
 
 -- a subcomponent of a simple type, with that type's limit and no list; the first one of a component; a starred one
 abbrev pub subcomponent : ℕ → ℕ → Simple → Leaf
@@ -25,6 +26,15 @@ HD = component 1 IS ∷ component 2 ST ∷ component 3 ID ∷ []
 
 abbrev pub TS : List Leaf
 TS = component* 1 DTM ∷ []
+
+abbrev pub MSG : List Leaf
+MSG = component* 1 ID ∷ component* 2 ID ∷ component 3 ID ∷ []
+
+abbrev pub PT : List Leaf
+PT = component* 1 ID ∷ []
+
+abbrev pub VID : List Leaf
+VID = component* 1 ID ∷ []
 
 abbrev pub CX : List Leaf
 CX =

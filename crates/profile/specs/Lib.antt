@@ -1,4 +1,6 @@
 pub mod Table
+pub mod Noted
+pub mod Limits
 pub mod Lists
 pub mod Leaves
 pub mod Fields

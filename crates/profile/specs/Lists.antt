@@ -1,7 +1,10 @@
 -- The lists of allowed codes, compared as written.
+use Prim.Native.Nat.{ℕ}
 use Prim.Native.String as string
 use mathlib.Core.List.{List, [], _∷_}
 use Rattle.text.specs.Bytes.{Text, bytes}
+use Rattle.profile.specs.Table.{Codes, any, only}
+use Rattle.profile.specs.Noted.{Noted, at}
 
 -- one code; codes of one letter each
 abbrev pub code : string.String → List Text
@@ -46,3 +49,29 @@ value-types =
 
 abbrev pub observation-statuses : List Text
 observation-statuses = letters "CDFINOPRSUWX"
+
+-- a list, and the reason where the text is not in it; no list
+pub record Coded : Type 0 where
+  pub list : Codes
+  pub reason : ℕ
+
+abbrev pub oneOf : List Text → ℕ → Coded
+oneOf codes n = record { list = only codes; reason = n }
+
+abbrev pub noList : Coded
+noList = record { list = any; reason = 8 }
+
+-- THE LISTS: place, codes, reason
+abbrev pub lists : List (Noted Coded)
+lists =
+    at "MSH" 9 1 (oneOf message-types 9)
+    ∷ at "MSH" 9 2 (oneOf events 10)
+    ∷ at "MSH" 11 1 (oneOf processing-ids 11)
+    ∷ at "MSH" 12 1 (oneOf versions 12)
+    ∷ at "PID" 8 1 (oneOf sexes 8)
+    ∷ at "PID" 24 1 (oneOf yes-no 8)
+    ∷ at "ORC" 1 1 (oneOf order-controls 8)
+    ∷ at "OBR" 25 1 (oneOf result-statuses 8)
+    ∷ at "OBX" 2 1 (oneOf value-types 8)
+    ∷ at "OBX" 11 1 (oneOf observation-statuses 8)
+    ∷ []

@@ -21,18 +21,6 @@ ofType FT t = true
 ofType ID t = true
 ofType IS t = true
 
--- limits in written bytes
-abbrev pub limitOf : Simple → ℕ
-limitOf SI = 4
-limitOf NM = 16
-limitOf DTM = 24
-limitOf TM = 16
-limitOf ST = 199
-limitOf TX = 4096
-limitOf FT = 4096
-limitOf ID = 20
-limitOf IS = 20
-
 -- any text, or one of a list
 pub data Codes : Type 0 where
   any : Codes
