@@ -1,14 +1,16 @@
 -- A FAULT'S REASON IS 1 TO 12: those of the walk are 1 to 7, and a leaf's own is what the table says.
 use mathlib.Core.Path.{_≡_, refl}
+use mathlib.Core.List.{flatMap}
 use Prim.Native.Nat.{ℕ, _≤_}
 use mathlib.Core.Bool.{Bool, true}
 use lib.Dec.{leb}
 use borrow.Author.Tests.{leb-true}
-use Rattle.text.specs.Bytes.{Text, every}
+use Rattle.text.specs.Bytes.{Text, every, same}
 use Rattle.text.specs.Limits.{_to_, isWithin}
 use Rattle.text.proofs.Tests.{both}
 use Rattle.profile.specs.Table.{Table, Leaf}
-use Rattle.profile.specs.Rows.{rows}
+use Rattle.profile.specs.Noted.{noted}
+use Rattle.profile.specs.Fields.{rows}
 use Rattle.profile.specs.Profile.{profile01}
 use Rattle.checks.specs.Place.{Place}
 use Rattle.checks.specs.Fault.{fault, verdict}
@@ -45,7 +47,7 @@ fault-reason T ok m p n e =
 
 -- 01's table is one
 profile-reasons : reasonsFit profile01 ≡ true
-unfolding tablePasses every profile01 rows
+unfolding flatMap same tablePasses every profile01 noted rows
 profile-reasons = refl
 
 pub fault-reason01 : (m : Text) (p : Place) (n : ℕ) → verdict profile01 m ≡ fault p n → (1 ≤ n) × (n ≤ 12)

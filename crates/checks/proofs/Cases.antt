@@ -11,7 +11,8 @@ use Rattle.parts.specs.Descent.{part}
 use Rattle.frame.specs.Segments.{field}
 use Rattle.frame.specs.Frame.{endsWithCR, frameTests}
 use Rattle.profile.specs.Table.{typeLeaves, gathered, rulesOf}
-use Rattle.profile.specs.Rows.{rows}
+use Rattle.profile.specs.Noted.{noted}
+use Rattle.profile.specs.Fields.{rows}
 use Rattle.profile.specs.Profile.{profile01}
 use Rattle.checks.specs.Place.{leafAt, repetitions}
 use Rattle.checks.specs.View.{filledFrom, fieldSeen, segmentSeen, view}
@@ -20,7 +21,7 @@ use Rattle.checks.specs.LookUp.{lookUp}
 use Rattle.checks.specs.Cases.{CasesHold, PlaceBeforeSegment}
 
 pub cases-hold : CasesHold
-unfolding flatMap every some keep same marksOf endsOutside digits rest twos split ended led closed part field typeLeaves gathered rulesOf rows profile01 leafAt repetitions filledFrom fieldSeen segmentSeen view walk checks firstBroken verdict
+unfolding flatMap every some keep same marksOf endsOutside digits rest twos split ended led closed part field typeLeaves gathered rulesOf noted rows profile01 leafAt repetitions filledFrom fieldSeen segmentSeen view walk checks firstBroken verdict
 cases-hold = refl
 
 pub place-before-segment : PlaceBeforeSegment

@@ -77,5 +77,5 @@ fields =
     ∷ []
 
 -- THE ROWS: those of one field after another
-unfoldable pub rowsOfFields : List Row
-rowsOfFields = flatMap (λ (rs : List Row). rs) fields
+unfoldable pub rows : List Row
+rows = flatMap (λ (rs : List Row). rs) fields

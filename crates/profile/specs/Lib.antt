@@ -4,7 +4,6 @@ pub mod Limits
 pub mod Lists
 pub mod Leaves
 pub mod Fields
-pub mod Rows
 pub mod Profile
 pub mod Fit
 pub mod Numbers

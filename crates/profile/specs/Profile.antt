@@ -4,7 +4,7 @@ use mathlib.Core.List.{List, [], _∷_, map}
 use Rattle.text.specs.Bytes.{Text, bytes}
 use Rattle.profile.specs.Table.{NM, DTM, TM, ST, TX, FT, Leaf, Type-leaves, Succession, Table}
 use Rattle.profile.specs.Leaves.{simple, CE, SN}
-use Rattle.profile.specs.Rows.{rows}
+use Rattle.profile.specs.Fields.{rows}
 
 abbrev pub typed : string.String → List Leaf → Type-leaves
 typed s ls = record { type = bytes s; leaves = ls }
