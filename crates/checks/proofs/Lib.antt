@@ -1,4 +1,3 @@
 pub mod Stands
 pub mod Filled
 pub mod Cases
-pub mod ListChecks

@@ -1,3 +1,4 @@
+-- An entry's promise is made of this.
 -- 01's profile field by field, as 01 lists it, and its rows, leaf by leaf.
 use Prim.Native.Nat.{ℕ}
 use Prim.Native.String as string
@@ -6,10 +7,10 @@ use Rattle.text.specs.Bytes.{Text, bytes}
 use Rattle.profile.specs.Table.{SI, NM, ST, FT, ID, IS, Leaf, leaf, named-by, Usage, O, R, C, Row}
 use Rattle.profile.specs.Noted.{noted}
 use Rattle.profile.specs.Limits.{ownLimits}
-use Rattle.profile.specs.Lists.{lists, noList}
+use Rattle.profile.specs.Lists.{lists}
 use Rattle.profile.specs.Leaves.{simple, HD, TS, MSG, PT, VID, CX, XPN, EI, CE}
 
--- a type's leaf in a field: its limit is its own one, where it has one; its list is that of its place
+-- a type's leaf in a field: its limit and its list are those of its place, where it has some there
 abbrev pub inField : Text → ℕ → Leaf → Leaf
 inField n f l =
     record {
@@ -18,8 +19,7 @@ inField n f l =
       type = l .type;
       star = l .star;
       limit = noted ownLimits n f (l .component) (l .subcomponent) (l .limit);
-      list = noted lists n f (l .component) (l .subcomponent) noList .list;
-      reason = noted lists n f (l .component) (l .subcomponent) noList .reason;
+      list = noted lists n f (l .component) (l .subcomponent) (l .list);
     }
 
 -- a field: a row for each of its leaves; a field whose type another field names
@@ -30,7 +30,7 @@ field s f ls u n =
 abbrev pub field-as : string.String → ℕ → ℕ → Usage → ℕ → List Row
 field-as s f g u n = record { segment = bytes s; field = f; usage = u; repetitions = n; lists = named-by g } ∷ []
 
--- THE FIELDS: segment, field, type, usage, repetitions
+-- THE FIELDS: segment, field, type, usage, repetitions. OBX-2 is required where OBX-5 is filled; OBX-5 is of the type that OBX-2 names
 abbrev pub fields : List (List Row)
 fields =
     field "MSH" 3 HD O 1

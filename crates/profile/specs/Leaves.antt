@@ -1,3 +1,4 @@
+-- An entry's promise is made of this.
 -- The listed leaves of each type.
 use Prim.Native.Nat.{ℕ}
 use mathlib.Core.Bool.{true, false}
@@ -8,14 +9,14 @@ use Rattle.profile.specs.Limits.{limitOf}
 -- a subcomponent of a simple type, with that type's limit and no list; the first one of a component; a starred one
 abbrev pub subcomponent : ℕ → ℕ → Simple → Leaf
 subcomponent c b t =
-    record { component = c; subcomponent = b; type = t; star = false; limit = limitOf t; list = any; reason = 8 }
+    record { component = c; subcomponent = b; type = t; star = false; limit = limitOf t; list = any }
 
 abbrev pub component : ℕ → Simple → Leaf
 component c t = subcomponent c 1 t
 
 abbrev pub component* : ℕ → Simple → Leaf
 component* c t =
-    record { component = c; subcomponent = 1; type = t; star = true; limit = limitOf t; list = any; reason = 8 }
+    record { component = c; subcomponent = 1; type = t; star = true; limit = limitOf t; list = any }
 
 -- a simple type has component 1
 abbrev pub simple : Simple → List Leaf

@@ -1,3 +1,4 @@
+-- An entry's promise is made of this.
 -- 01's limits, in written bytes.
 use Prim.Native.Nat.{ℕ}
 use mathlib.Core.List.{List, [], _∷_}
@@ -16,10 +17,10 @@ limitOf ST = 199
 limitOf TX = 4096
 limitOf FT = 4096
 
--- the message control number's, which a reply asks for too
+-- one that is asked for elsewhere too: of MSH-10, by a reply
 abbrev pub controlLimit : ℕ
 controlLimit = 20
 
--- LIMITS OF THEIR OWN
+-- LIMITS OF THEIR OWN: segment, field, component; limit
 abbrev pub ownLimits : List (Noted ℕ)
 ownLimits = at "MSH" 10 1 controlLimit ∷ at "OBX" 2 1 3 ∷ at "OBX" 4 1 20 ∷ at "OBX" 7 1 60 ∷ []

@@ -1,3 +1,4 @@
+-- An entry's promise is made of this.
 -- What 01 says of single leaves, beside their places.
 use Prim.Native.Nat.{ℕ}
 use Prim.Native.String as string
@@ -6,7 +7,7 @@ use mathlib.Core.List.{List, [], _∷_}
 use lib.Dec.{eqb}
 use Rattle.text.specs.Bytes.{Text, pick, bytes, same}
 
--- a component of one subcomponent; 01 writes PID-8 for PID-8.1, since a simple type has component 1
+-- a place is a segment's field and a component with one subcomponent; 01 writes PID-8 for PID-8.1, since a simple type has component 1
 pub record Noted (A : Type 0) : Type 0 where
   pub segment : Text
   pub field : ℕ

@@ -1,3 +1,4 @@
+-- An entry's promise is made of this.
 -- The depot's own table: the rows, the leaves of the types that OBX-2 may name, the succession and the ends.
 use Prim.Native.String as string
 use mathlib.Core.List.{List, [], _∷_, map}
