@@ -8,6 +8,7 @@ pub mod Fields
 pub mod Profile
 -- Demand 3, and a theorem of the profile, are said of these.
 pub mod Fit
+pub mod Rising
 -- Inner: no entry's promise is made of these.
 pub mod Numbers
 pub mod Order
