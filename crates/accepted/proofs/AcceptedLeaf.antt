@@ -8,7 +8,7 @@ use lib.ListN.{length}
 use lib.Dec.{ltb}
 use borrow.Author.Tests as tests
 use borrow.Author.Tests.{le-ltb, ltb-true, ltb-false}
-use Rattle.text.specs.Bytes.{Text, pick, empty, some}
+use Rattle.text.specs.Bytes.{Text, pick, empty, some, isOne}
 use Rattle.text.specs.declared.marks.Marks.{Marks}
 use Rattle.text.specs.Marks.{marksOf}
 use Rattle.escape.specs.Escape.{badEscape}
@@ -16,10 +16,10 @@ use Rattle.text.specs.Limits.{tooLong}
 use Rattle.text.proofs.Tests.{not-true, same-true}
 use Rattle.text.proofs.Lists.{All, all-map, all-both, all-keep, all-kept, every-all, some-mono, or-none}
 use Rattle.frame.specs.Segments.{segments, name, named, ofName, occurrence, fewer}
-use Rattle.profile.specs.Table.{Table, Leaf, Rule, Usage, R, ofType, among, isListed, rulesOf, leavesOf}
-use Rattle.checks.specs.Place.{place, leafAt, repetitions}
+use Rattle.profile.specs.Table.{Table, Codes, any, only, Leaf, Rule, Usage, R, ofType, isListed, rulesOf, leavesOf}
+use Rattle.checks.specs.Place.{Place, place, leafAt, repetitions}
 use Rattle.checks.specs.View.{Entry, Repetition, Field, Segment, entriesAt, isFilled, filledUpTo, namedIn, fieldSeen, segmentSeen, listedSegments, view}
-use Rattle.checks.specs.Fault.{Check, leafChecks, repetitionChecks, startsFilled, firstFilled, isRequired, fieldChecks, count, walk, checks, accepted, verdict}
+use Rattle.checks.specs.Fault.{Check, listChecks, leafChecks, repetitionChecks, startsFilled, firstFilled, isRequired, fieldChecks, count, walk, checks, accepted, verdict}
 use Rattle.parts.proofs.Members.{append-all, keep-step, keep-all, some-map, map-all, flatMap-all, member-all}
 use Rattle.checks.proofs.Leaf.{leaf-nought, leaf-beyond}
 use Rattle.checks.proofs.Filled.{late-numbers}
@@ -27,15 +27,23 @@ use Rattle.escape.proofs.Escapes.{bad-none}
 use Rattle.accepted.proofs.Accepted.{accepted-none}
 
 -- 1. A leaf's rule
+abbrev InList : Codes → Text → Type 0
+InList any t = Unit
+InList (only codes n) t = not (empty t) && not (isOne t codes) ≡ false
+
 pub record Kept (q : Marks) (l : Leaf) (t : Text) : Type 0 where
   pub short : tooLong (l .limit) t ≡ false
   pub good : badEscape q t ≡ false
   pub typed : not (empty t) && not (ofType (l .type) t) ≡ false
-  pub coded : not (empty t) && not (among (l .list) t) ≡ false
+  pub coded : InList (l .list) t
 
 -- Empty keeps it
+empty-in : (c : Codes) → InList c []
+empty-in any = tt
+empty-in (only codes n) = refl
+
 empty-kept : (q : Marks) (l : Leaf) (t : Text) → empty t ≡ true → Kept q l t
-empty-kept q l [] e = record { short = le-ltb (l .limit) 0 (omega arith); good = bad-none q; typed = refl; coded = refl }
+empty-kept q l [] e = record { short = le-ltb (l .limit) 0 (omega arith); good = bad-none q; typed = refl; coded = empty-in (l .list) }
 empty-kept q l (b ∷ t) e = not-true e
 
 -- in a filled repetition a starred one is not Empty
@@ -45,9 +53,13 @@ Judged q l t = Kept q l t × (empty t && l .star ≡ false)
 abbrev Fine : Check → Type 0
 Fine c = c .broken ≡ false
 
+list-judged : (p : Place) (c : Codes) (t : Text) → All Fine (listChecks p c t) → InList c t
+list-judged p any t a = tt
+list-judged p (only codes n) t a = a .0
+
 leaf-judged : (q : Marks) (n : Text) (o f k : ℕ) (e : Entry)
     → All Fine (leafChecks q (place n o f k (e .leaf .component) (e .leaf .subcomponent)) (e .leaf) (e .text)) → Judged q (e .leaf) (e .text)
-leaf-judged q n o f k e a = (record { short = a .1 .0; good = a .1 .1 .0; typed = a .1 .1 .1 .0; coded = a .1 .1 .1 .1 .0 }, a .0)
+leaf-judged q n o f k e a = (record { short = a .1 .0; good = a .1 .1 .0; typed = a .1 .1 .1 .0; coded = list-judged (place n o f k (e .leaf .component) (e .leaf .subcomponent)) (e .leaf .list) (e .text) (a .1 .1 .1 .1) }, a .0)
 
 abbrev EntriesJudged : Marks → List Entry → Type 0
 EntriesJudged q es = All (λ (e : Entry). Judged q (e .leaf) (e .text)) es

@@ -1,5 +1,5 @@
 -- What holds of each check of a message, and so of its fault, by tests on the table's fields and leaves and by what holds of the segments' names.
-use mathlib.Core.Path.{_≡_}
+use mathlib.Core.Path.{_≡_, refl}
 use Prim.Native.Nat.{ℕ, zero, suc}
 use mathlib.Core.Bool.{Bool, true, _&&_}
 use mathlib.Core.List.{List, [], _∷_, map, flatMap}
@@ -9,11 +9,11 @@ use Rattle.text.specs.Marks.{marksOf}
 use Rattle.text.proofs.Tests.{both, picks}
 use Rattle.text.proofs.Lists.{All, all-map, all-append, all-keep, every-all, all-flatMap}
 use Rattle.frame.specs.Segments.{name}
-use Rattle.profile.specs.Table.{Table, Leaf, Listed, leaf, named-by, Row, Type-leaves, typeLeaves, Rule, rulesOf, leavesIn, leavesOf}
+use Rattle.profile.specs.Table.{Table, Codes, any, only, Leaf, Listed, leaf, named-by, Row, Type-leaves, typeLeaves, Rule, rulesOf, leavesIn, leavesOf}
 use Rattle.profile.proofs.Gathered.{gathered-all}
 use Rattle.checks.specs.Place.{Place, place, leafAt, repetitions}
 use Rattle.checks.specs.View.{Entry, Repetition, Field, Segment, entriesAt, isFilled, filledUpTo, namedIn, fieldSeen, segmentSeen, listedSegments, view}
-use Rattle.checks.specs.Fault.{Check, leafChecks, repetitionChecks, fieldChecks, count, walk, checks, Verdict, accepted, fault, firstBroken, verdict}
+use Rattle.checks.specs.Fault.{Check, listChecks, leafChecks, repetitionChecks, fieldChecks, count, walk, checks, Verdict, accepted, fault, firstBroken, verdict}
 
 -- what is made of each member
 all-made : {A B : Type 0} (P : B → Type 0) (f : A → B) → ((x : A) → P (f x)) → (l : List A) → All P (map f l)
@@ -123,10 +123,17 @@ module _ (F : ℕ → Bool) (L : Leaf → Bool) where
       pub surplus : (n : Text) (o f r : ℕ) → N n → F f ≡ true → C (place n o f r 0 0) 4
       pub leaf :
           (n : Text) (o f r : ℕ) (l : Leaf) → N n → F f ≡ true → L l ≡ true
-          → All (C (place n o f r (l .component) (l .subcomponent))) (3 ∷ 5 ∷ 6 ∷ 7 ∷ l .reason ∷ [])
+          → All (C (place n o f r (l .component) (l .subcomponent))) (3 ∷ 5 ∷ 6 ∷ 7 ∷ [])
+      pub list :
+          (n : Text) (o f r : ℕ) (l : Leaf) → N n → F f ≡ true → L l ≡ true → (codes : List Text) (why : ℕ) → l .list ≡ only codes why
+          → C (place n o f r (l .component) (l .subcomponent)) why
 
     abbrev Holds : Check → Type 0
     Holds c = C (c .place) (c .reason)
+
+    list-all : (p : Place) (c : Codes) (t : Text) → ((codes : List Text) (why : ℕ) → c ≡ only codes why → C p why) → All Holds (listChecks p c t)
+    list-all p any t h = tt
+    list-all p (only codes why) t h = (h codes why refl, tt)
 
     abbrev SegmentPasses : Segment → Type 0
     SegmentPasses s = N (s .name) × All FieldPasses (s .fields)
@@ -137,7 +144,12 @@ module _ (F : ℕ → Bool) (L : Leaf → Bool) where
           let made : Entry → List Check =
           λ e. leafChecks q (place n o f (r .number) (e .leaf .component) (e .leaf .subcomponent)) (e .leaf) (e .text) in
           all-flatMap Holds made (r .entries)
-          (all-map EntryPasses (λ e. All Holds (made e)) (λ e. k .leaf n o f (r .number) (e .leaf) h g) (r .entries) a)
+          (all-map EntryPasses (λ e. All Holds (made e))
+          (λ e i.
+          let l = e .leaf in
+          let w = k .leaf n o f (r .number) l h g i in
+          (w .0, (w .1 .0, (w .1 .1 .0, (w .1 .1 .1 .0, list-all (place n o f (r .number) (l .component) (l .subcomponent)) (l .list) (e .text) (k .list n o f (r .number) l h g i))))))
+          (r .entries) a)
 
       field-all : (n : Text) (o : ℕ) → N n → (vs : List Field) (v : Field) → FieldPasses v → All Holds (fieldChecks q n o vs v)
       field-all n o h vs v a =

@@ -14,7 +14,8 @@ use Rattle.text.proofs.Lists.{or-false}
 use Rattle.frame.specs.Segments.{segments, name, named, ofName, fewer}
 use Rattle.frame.specs.Frame.{framed}
 use Rattle.profile.specs.Table.{Table, isListed, mayFollow}
-use Rattle.profile.specs.Rows.{rows}
+use Rattle.profile.specs.Noted.{noted}
+use Rattle.profile.specs.Fields.{rows}
 use Rattle.profile.specs.Profile.{profile01}
 use Rattle.checks.specs.View.{Segment, segmentSeen, view}
 use Rattle.checks.specs.Fault.{Check, noneBroken, fieldChecks, count, walk, checks, accepted, verdict}
@@ -73,7 +74,7 @@ abbrev patient : Text
 patient = bytes "PID"
 
 pub header-listed : isListed profile01 header ≡ true
-unfolding some same profile01 rows
+unfolding flatMap some same profile01 noted rows
 header-listed = refl
 
 patient-next : (n : Text) → mayFollow profile01 header n ≡ true → same n patient ≡ true

@@ -11,7 +11,8 @@ use Rattle.parts.specs.Descent.{part}
 use Rattle.frame.specs.Segments.{fieldOf}
 use Rattle.frame.specs.Frame.{endsWithCR, frameTests}
 use Rattle.profile.specs.Table.{typeLeaves, gathered, rulesOf}
-use Rattle.profile.specs.Rows.{rows}
+use Rattle.profile.specs.Noted.{noted}
+use Rattle.profile.specs.Fields.{rows}
 use Rattle.profile.specs.Profile.{profile01}
 use Rattle.checks.specs.Place.{apart, leafAt, repetitions}
 use Rattle.checks.specs.View.{filledUpTo, fieldSeen, segmentSeen, view}
@@ -20,7 +21,7 @@ use Rattle.checks.specs.LookUp.{lookUp}
 use Rattle.checks.specs.Cases.{CasesHold, PlaceBeforeSegment}
 
 pub cases-hold : CasesHold
-unfolding flatMap every some keep same marksOf isEscape stops badEscape digits rest twos split ended led closed part fieldOf typeLeaves gathered rulesOf rows profile01 apart leafAt repetitions filledUpTo fieldSeen segmentSeen view walk checks firstBroken verdict
+unfolding flatMap every some keep same marksOf isEscape stops badEscape digits rest twos split ended led closed part fieldOf typeLeaves gathered rulesOf noted rows profile01 apart leafAt repetitions filledUpTo fieldSeen segmentSeen view walk checks firstBroken verdict
 cases-hold = refl
 
 pub place-before-segment : PlaceBeforeSegment

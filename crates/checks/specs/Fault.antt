@@ -6,7 +6,7 @@ use mathlib.Core.Bool.{Bool, true, false, not, _&&_}
 use mathlib.Core.List.{List, [], _∷_, _++_, flatMap}
 use lib.ListN.{length}
 use lib.Dec.{eqb}
-use Rattle.text.specs.Bytes.{Text, pick, empty, some, keep, same}
+use Rattle.text.specs.Bytes.{Text, pick, empty, some, keep, same, isOne}
 use Rattle.text.specs.Answer.{Answer, first}
 use Rattle.text.specs.First.{none, First}
 use Rattle.text.specs.declared.marks.Marks.{Marks}
@@ -14,7 +14,7 @@ use Rattle.text.specs.Marks.{marksOf}
 use Rattle.escape.specs.Escape.{badEscape}
 use Rattle.text.specs.Limits.{tooLong, _to_, isWithin}
 use Rattle.frame.specs.Frame.{frameTests}
-use Rattle.profile.specs.Table.{Table, Leaf, Usage, O, R, C, ofType, among, mayFollow, mayEnd}
+use Rattle.profile.specs.Table.{Table, Codes, any, only, Leaf, Usage, O, R, C, ofType, mayFollow, mayEnd}
 use Rattle.checks.specs.Place.{Place, place}
 use Rattle.checks.specs.View.{Entry, Repetition, Field, Segment, view}
 
@@ -26,6 +26,11 @@ pub record Check : Type 0 where
 abbrev pub check : Place → ℕ → Bool → Check
 check p n b = record { place = p; reason = n; broken = b }
 
+-- a text that is not in its list; a leaf without a list has no such check
+abbrev pub listChecks : Place → Codes → Text → List Check
+listChecks p any t = []
+listChecks p (only codes n) t = check p n (not (empty t) && not (isOne t codes)) ∷ []
+
 -- A LEAF'S OWN RULE: Empty passes unless it is starred; else too long, bad escape, not of its type, not in its list
 abbrev pub leafChecks : Marks → Place → Leaf → Text → List Check
 leafChecks q p l t =
@@ -33,8 +38,7 @@ leafChecks q p l t =
     ∷ check p 5 (tooLong (l .limit) t)
     ∷ check p 6 (badEscape q t)
     ∷ check p 7 (not (empty t) && not (ofType (l .type) t))
-    ∷ check p (l .reason) (not (empty t) && not (among (l .list) t))
-    ∷ []
+    ∷ listChecks p (l .list) t
 
 -- the leaves of a filled repetition, rising
 abbrev pub repetitionChecks : Marks → Text → ℕ → ℕ → Repetition → List Check

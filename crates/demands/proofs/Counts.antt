@@ -13,7 +13,8 @@ use Rattle.text.proofs.Tests as tests
 use Rattle.text.proofs.Lists.{All, every-all, or-either}
 use Rattle.frame.specs.Segments.{segments, name, named, ofName}
 use Rattle.profile.specs.Table.{Succession, isListed, mayFollow}
-use Rattle.profile.specs.Rows.{rows}
+use Rattle.profile.specs.Noted.{noted}
+use Rattle.profile.specs.Fields.{rows}
 use Rattle.profile.specs.Profile.{profile01}
 use Rattle.reader.specs.View.{segmentSeen, view}
 use Rattle.reader.specs.Fault.{Check, fieldChecks, count, walk, checks}
@@ -108,7 +109,7 @@ next-opening last n o e =
     rw (tests.same-true n (g .0) (g .1 .1)) (g .1 .0)
 
 observation-listed : isListed profile01 observation ≡ true
-unfolding some same profile01 rows
+unfolding flatMap some same profile01 noted rows
 observation-listed = refl
 
 observation-later : isOne observation opening ≡ false

@@ -16,14 +16,14 @@ use Rattle.parts.specs.Span.{partText}
 use Rattle.parts.proofs.Split.{piece-le}
 use Rattle.parts.proofs.Descent.{within-piece}
 use Rattle.parts.proofs.Join.{split-one}
-use Rattle.profile.specs.Table.{Simple, SI, NM, DTM, TM, ST, TX, FT, ID, IS, Codes, any, only, Leaf, ofType, among}
+use Rattle.profile.specs.Table.{Simple, SI, NM, DTM, TM, ST, TX, FT, ID, IS, Codes, any, only, Leaf, ofType}
 use Rattle.profile.specs.Order.{takesAny, hasNoList, takesUpTo}
 use Rattle.codes.specs.Inner.{SureUpTo, sure}
 use Rattle.checks.specs.Place.{Place, place}
 use Rattle.checks.specs.Repetition.{leafIn}
 use Rattle.checks.specs.View.{Entry}
 use Rattle.checks.specs.Repetition.{entriesOf}
-use Rattle.checks.specs.Fault.{Check, accepted, leafChecks, repetitionChecks, firstBroken}
+use Rattle.checks.specs.Fault.{Check, accepted, listChecks, leafChecks, repetitionChecks, firstBroken}
 use Rattle.leaves.specs.Judged.{ReadsRepetition}
 use Rattle.leaves.proofs.Breaks.{broken-flat}
 use Rattle.fields.specs.Flat.{isFlat, passedOnce}
@@ -41,9 +41,10 @@ any-type FT t e = refl
 any-type ID t e = refl
 any-type IS t e = refl
 
-any-code : (l : Codes) (t : Text) → hasNoList l ≡ true → among l t ≡ true
-any-code any t e = refl
-any-code (only l) t e = no e
+any-code : (p : Place) (l : Codes) (t : Text) → hasNoList l ≡ true → firstBroken (listChecks p l t) ≡ accepted
+unfolding firstBroken
+any-code p any t e = refl
+any-code p (only codes n) t e = no e
 
 -- what is said of a leaf
 pub record Takes (n : ℕ) (l : Leaf) : Type 0 where
@@ -120,7 +121,7 @@ module _ (q : Marks) (x : Text) (clean : isFlat q x ≡ true) (filled : 1 ≤ le
   leaf-good l t p =
       let c = l .component in
       let fits : length (component c) ≤ l .limit = omega (arith, piece-le (q .component) c x, t .limit, short) in
-      rw (t .first, leaf-is c, starred (l .star) c (t .star), le-ltb (l .limit) (length (component c)) fits, flat-plain q (component c) (component-flat c), any-type (l .type) (component c) (t .type), any-code (l .list) (component c) (t .list), and-false (not (empty (component c))))
+      rw (t .first, leaf-is c, starred (l .star) c (t .star), le-ltb (l .limit) (length (component c)) fits, flat-plain q (component c) (component-flat c), any-type (l .type) (component c) (t .type), any-code p (l .list) (component c) (t .list), and-false (not (empty (component c))))
 
   leaves-good : (ls : List Leaf) → every (takesUpTo n) ls ≡ true → (m : Text) (o f k : ℕ)
       → firstBroken (repetitionChecks q m o f (record { number = k; entries = entriesOf q ls x })) ≡ accepted

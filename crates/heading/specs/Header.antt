@@ -10,7 +10,8 @@ use Rattle.escape.specs.Escape.{badEscape}
 use Rattle.text.specs.Limits.{tooLong}
 use Rattle.parts.specs.Split.{join, trimmed}
 use Rattle.frame.specs.Frame.{header}
-use Rattle.profile.specs.Table.{limitOf, IS, ST, ID}
+use Rattle.profile.specs.Table.{IS, ST, ID}
+use Rattle.profile.specs.Limits.{limitOf}
 use Rattle.profile.specs.Lists.{processing-ids}
 use Rattle.reader.specs.Place.{place, textAt}
 

@@ -8,7 +8,7 @@ use lib.ListN.{length, getD, drop}
 use lib.Seq.{getD-drop}
 use lib.Dec.{ltb, leb}
 use borrow.Author.Tests.{lt-ltb, le-ltb, ltb-true, leb-true}
-use Rattle.profile.specs.Numbers.{componentColumn, reasonColumn, rowSize, starColumn, subcomponentColumn}
+use Rattle.profile.specs.Numbers.{componentColumn, rowSize, starColumn, subcomponentColumn}
 use Rattle.text.specs.Bytes.{Text, empty, some, within}
 use Rattle.text.specs.declared.marks.Marks.{Marks}
 use Rattle.text.proofs.Tests.{both}
@@ -27,6 +27,7 @@ use Rattle.cursor.proofs.Moving.{cursor-text, cursor-past}
 use Rattle.codes.specs.declared.rows.Rows.{Rows}
 use Rattle.profile.specs.Table.{Leaf}
 use Rattle.profile.specs.Numbers as row
+use Rattle.profile.specs.Order.{reasonFits}
 use Rattle.codes.specs.Inner.{Ascends, next, Lists, leavesAt}
 use Rattle.leaves.specs.declared.repetition.ReadRepetition.{ReadRepetition}
 use Rattle.checks.specs.Place.{Place, place}
@@ -60,7 +61,7 @@ module _ (q : Marks) (s : Text) (c : Cursor) (h : IsPiece (q .component) s c) (l
 
   pub entries-missing : (k : ℕ) (ls : List Leaf) → Ascends k ls → c .number < k → entriesOf q ls s ≡ entriesOf q ls []
   entries-missing k [] a l = refl
-  entries-missing k (x ∷ ls) (next i _ _ r) l =
+  entries-missing k (x ∷ ls) (next i _ r) l =
       rw (leaf-missing (x .component) (x .subcomponent) (omega arith), entries-missing (x .component) ls r (omega arith))
 
 -- of all leaves these are left to be read; that was found before them
@@ -171,8 +172,8 @@ pub record Reading (s : Text) (q : Marks) (table : List ℕ) (first end : ℕ) (
   pub ascends : Ascends (cursor .number) (leaves table at end)
   pub left : Left q s (leaves table first end) (leaves table at end) found
 
-pub rises : (k : ℕ) (l : Leaf) (ls : List Leaf) → Ascends k (l ∷ ls) → (k ≤ l .component) × ((1 ≤ l .reason) × (l .reason ≤ 12)) × Ascends (l .component) ls
-rises k l ls (next a b c r) = (a, (b, c), r)
+pub rises : (k : ℕ) (l : Leaf) (ls : List Leaf) → Ascends k (l ∷ ls) → (k ≤ l .component) × (reasonFits (l .list) ≡ true) × Ascends (l .component) ls
+rises k l ls (next a b r) = (a, b, r)
 
 module _ {s : Text} {q : Marks} {table : List ℕ} where
   pub reading-first : {r : Rows} {c : Cursor} → Lists table r (leavesAt table r) → IsPiece (q .component) s c × (c .number ≡ 1)
@@ -198,7 +199,7 @@ module _ {s : Text} {q : Marks} {table : List ℕ} where
       abbrev rest : List Leaf
       rest = leaves table (at + rowSize) end
 
-      rise : (c .number ≤ l .component) × ((1 ≤ l .reason) × (l .reason ≤ 12)) × Ascends (l .component) rest
+      rise : (c .number ≤ l .component) × (reasonFits (l .list) ≡ true) × Ascends (l .component) rest
       rise = rises (c .number) l rest (rw (rows-next table at end more) at (w .ascends))
 
       left : Left q s (leaves table first end) (l ∷ rest) found
@@ -207,8 +208,8 @@ module _ {s : Text} {q : Marks} {table : List ℕ} where
       pub reading-number : c .number ≤ getD table (at + componentColumn) 0
       reading-number = rw (← getD-drop at table componentColumn 0) (rise .0)
 
-      pub reading-reason : (1 ≤ getD table (at + reasonColumn) 0) × (getD table (at + reasonColumn) 0 ≤ 12)
-      reading-reason = rw (← getD-drop at table reasonColumn 0) (rise .1)
+      pub reading-reason : reasonFits (l .list) ≡ true
+      reading-reason = rise .1
 
       -- its component is behind the last
       module _ (missing : ltb (c .number) (getD table (at + componentColumn) 0) && leb (length s) (c .end) ≡ true) where

@@ -2,13 +2,12 @@
 use mathlib.Core.Path.{_≡_, sym, ap, subst, _∙_}
 use Prim.Native.Nat.{ℕ, _+_, _-_, _≤_, _<_}
 use native.Mathlib.Omega.{arith}
-use mathlib.Core.Bool.{Bool, true, false}
+use mathlib.Core.Bool.{false}
 use mathlib.Core.List.{List}
 use lib.ListN.{length, getD, drop}
 use lib.Seq.{take-take, getD-drop}
-use lib.Dec.{eqb}
-use Rattle.profile.specs.Numbers.{typeColumn, firstField, sureColumn}
-use Rattle.text.specs.Bytes.{Text, pick, within}
+use Rattle.profile.specs.Numbers.{typeColumn, firstField, firstNamer, sureColumn}
+use Rattle.text.specs.Bytes.{Text, within}
 use Rattle.text.specs.declared.marks.Marks.{Marks}
 use Rattle.parts.specs.Split.{split, piece}
 use Rattle.parts.specs.Start.{reach}
@@ -67,9 +66,8 @@ module _ (q : Marks) (x : Text) (a b : ℕ) (first : a ≡ 0 + reach (q .repetit
         ∙ ap (λ (y : Text). p (q .subcomponent) (p (q .component) y)) (first-text (q .repetition) x a first)
 
 -- a field that names a type has a number as any other
-number-step : (b : Bool) (n : ℕ) → pick b 13 11 ≤ n → pick b 3 1 ≤ n - 10
-number-step true n h = omega arith
-number-step false n h = omega arith
+number-step : (k n : ℕ) → firstNamer k ≤ n → firstField k ≤ n - 10
+number-step k n h = omega arith
 
 -- THE ROWS that list a field's leaves: its own
 module _ (q : Marks) (table : List ℕ) (s : Text) (k at end : ℕ) (is : IsField table k at end) where
@@ -88,7 +86,7 @@ module _ (q : Marks) (table : List ℕ) (s : Text) (k at end : ℕ) (is : IsFiel
 
   -- those of the type that another field names
   pub named-from : 10 ≤ getD table (at + typeColumn) 0 → firstField k ≤ getD table (at + typeColumn) 0 - 10
-  named-from l = number-step (eqb k 1) (getD table (at + typeColumn) 0) (field-namer table k at end is l)
+  named-from l = number-step k (getD table (at + typeColumn) 0) (field-namer table k at end is l)
 
   pub lists-named : (l : 10 ≤ getD table (at + typeColumn) 0) (r : Rows) → Lists table r (leavesNamed table (namedIn q s (getD table (at + typeColumn) 0 - 10))) → Lists table r (leavesOfField q table s at end)
   lists-named l r h = subst (λ (ls : List Leaf). Lists table r ls) (sym (leaves-named table k at end is l (namedIn q s))) h

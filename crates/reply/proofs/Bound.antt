@@ -18,9 +18,9 @@ use Rattle.text.proofs.Lists.{All, or-either, or-none}
 use Rattle.text.proofs.Digits.{decimal-length}
 use Rattle.parts.specs.Split.{led, join, closed, trimmed}
 use Rattle.frame.specs.Frame.{header}
-use Rattle.profile.specs.Table.{Table, limitOf, IS, ST, ID}
+use Rattle.profile.specs.Table.{Table, IS, ST, ID}
 use Rattle.profile.specs.Lists.{processing-ids}
-use Rattle.profile.specs.Fields.{controlLimit}
+use Rattle.profile.specs.Limits.{limitOf, controlLimit}
 use Rattle.profile.specs.Profile.{profile01}
 use Rattle.reader.specs.Place.{Place}
 use Rattle.reader.specs.Fault.{Verdict, accepted, fault, verdict, condition}

@@ -15,7 +15,7 @@ use Rattle.text.specs.declared.refusal.Refusal.the-variants.{BadStamp, BadReply
 use Rattle.parts.specs.Split.{join, closed}
 use Rattle.frame.specs.Frame.{frameTests}
 use Rattle.profile.specs.Table.{Table}
-use Rattle.profile.specs.Fields.{controlLimit}
+use Rattle.profile.specs.Limits.{controlLimit}
 use Rattle.reader.specs.Fault.{Verdict, verdict}
 use Rattle.heading.specs.Header.{headerLeaf, replyHeader}
 use Rattle.report.specs.Error.{code, replyERR}

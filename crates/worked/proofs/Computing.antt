@@ -10,7 +10,8 @@ use Rattle.parts.specs.Descent.{part}
 use Rattle.frame.specs.Segments.{countFrom, locatedSegments, occurrenceOf, fieldOf}
 use Rattle.frame.specs.Frame.{endsWithCR, frameTests}
 use Rattle.profile.specs.Table.{typeLeaves, gathered, rulesOf}
-use Rattle.profile.specs.Rows.{rows}
+use Rattle.profile.specs.Noted.{noted}
+use Rattle.profile.specs.Fields.{rows}
 use Rattle.profile.specs.Profile.{profile01}
 use Rattle.reader.specs.Place.{apart, leafAt, repetitions, standsAt, textAt}
 use Rattle.reader.specs.LookUp.{lookUp}
@@ -27,5 +28,5 @@ use Rattle.slip.specs.Book.{file}
 use Rattle.book.specs.Read.{isSlipFrom, valueFrom, readSlip}
 
 unfoldable pub computing : Unit {0}
-unfolding flatMap every some keep same first marksOf isEscape standsFor stops badEscape resolved resolve digits rest twos split ended led join closed part countFrom locatedSegments occurrenceOf fieldOf endsWithCR frameTests typeLeaves gathered rulesOf rows profile01 apart leafAt repetitions standsAt textAt lookUp filledUpTo fieldSeen segmentSeen view walk checks firstBroken verdict judge digitsBefore faultLine textLine trimmed copiedHD replyText reply observations observationsFrom slipOf slipText file isSlipFrom valueFrom readSlip
+unfolding flatMap every some keep same first marksOf isEscape standsFor stops badEscape resolved resolve digits rest twos split ended led join closed part countFrom locatedSegments occurrenceOf fieldOf endsWithCR frameTests typeLeaves gathered rulesOf noted rows profile01 apart leafAt repetitions standsAt textAt lookUp filledUpTo fieldSeen segmentSeen view walk checks firstBroken verdict judge digitsBefore faultLine textLine trimmed copiedHD replyText reply observations observationsFrom slipOf slipText file isSlipFrom valueFrom readSlip
 computing = tt
