@@ -1,3 +1,4 @@
 pub mod Stands
 pub mod Filled
 pub mod Cases
+pub mod Separators

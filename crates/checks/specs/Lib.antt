@@ -4,3 +4,4 @@ pub mod LookUp
 pub mod View
 pub mod Fault
 pub mod Cases
+pub mod Separators
