@@ -2,3 +2,4 @@ pub mod Leaf
 pub mod Stands
 pub mod Filled
 pub mod Cases
+pub mod Separators

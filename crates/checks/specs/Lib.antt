@@ -4,7 +4,8 @@ pub mod Shown
 pub mod LookUp
 pub mod View
 pub mod Fault
--- No entry's promise is made of this: it tries the definitions.
+-- No entry's promise is made of these: a theorem about the definitions, and cases that try them.
+pub mod Separators
 pub mod Cases
 -- Inner: no entry's promise is made of these.
 pub mod Starts
