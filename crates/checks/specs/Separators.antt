@@ -1,3 +1,4 @@
+-- No entry's promise is made of this: it is a theorem about the definitions.
 -- MSH-1 is the field separator and MSH-2 the other four, each unsplit and Empty beyond its first leaf.
 use Prim.Native.Nat.{ℕ}
 use mathlib.Core.Path.{_≡_}
