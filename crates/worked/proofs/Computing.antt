@@ -20,6 +20,7 @@ use Rattle.reader.specs.Fault.{walk, checks, firstBroken, verdict, judge}
 use Rattle.text.specs.Decimal.{digitsBefore}
 use Rattle.line.specs.Line.{faultLine, textLine}
 use Rattle.reply.specs.Header.{copiedHD}
+use Rattle.reply.specs.Error.{withoutTrailingZeros}
 use Rattle.reply.specs.Reply.{replyText, reply}
 use Rattle.slip.specs.Slot.{slipOf}
 use Rattle.reader.specs.Observations.{observations, observationsFrom}
@@ -28,5 +29,5 @@ use Rattle.slip.specs.Book.{file}
 use Rattle.book.specs.Read.{isSlipFrom, valueFrom, readSlip}
 
 unfoldable pub computing : Unit {0}
-unfolding flatMap every some keep same first marksOf isEscape standsFor stops badEscape resolved resolve digits rest twos split ended led join closed part countFrom locatedSegments occurrenceOf fieldOf endsWithCR frameTests typeLeaves gathered rulesOf noted rows profile01 apart leafAt repetitions standsAt textAt lookUp filledUpTo fieldSeen segmentSeen view walk checks firstBroken verdict judge digitsBefore faultLine textLine trimmed copiedHD replyText reply observations observationsFrom slipOf slipText file isSlipFrom valueFrom readSlip
+unfolding flatMap every some keep same first marksOf isEscape standsFor stops badEscape resolved resolve digits rest twos split ended led join closed part countFrom locatedSegments occurrenceOf fieldOf endsWithCR frameTests typeLeaves gathered rulesOf noted rows profile01 apart leafAt repetitions standsAt textAt lookUp filledUpTo fieldSeen segmentSeen view walk checks firstBroken verdict judge digitsBefore faultLine textLine trimmed copiedHD withoutTrailingZeros replyText reply observations observationsFrom slipOf slipText file isSlipFrom valueFrom readSlip
 computing = tt

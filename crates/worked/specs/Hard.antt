@@ -6,13 +6,16 @@ use mathlib.Core.List.{List, [], _∷_, _++_}
 use lib.ListN.{take, drop, replicate}
 use Rattle.text.specs.Bytes.{Text, bytes, cr}
 use Rattle.text.specs.Answer.{given, bufferAfter}
+use Rattle.text.specs.Decimal.{decimal}
 use Rattle.text.specs.Marks.{usual}
 use Rattle.escape.specs.Escape.{resolve}
 use Rattle.types.specs.Types.{isSI, isNM, isDTM, isTM, isStamp, isReplyNumber}
 use Rattle.profile.specs.Profile.{profile01}
 use Rattle.reader.specs.Place.{place}
 use Rattle.reader.specs.LookUp.{lookUp}
+use Rattle.reader.specs.Fault.{condition}
 use Rattle.line.specs.Line.{lookLine}
+use Rattle.reply.specs.Error.{placeText}
 use Rattle.reply.specs.Reply.{reply}
 use Rattle.slip.specs.Book.{file, bookAfter}
 use Rattle.book.specs.Read.{isSlip, readSlip}
@@ -228,6 +231,11 @@ replies =
     ∷ "MSA|AR|C7"
     ∷ "ERR||MSH^1^12^1^1^1|203^Unsupported version id^HL70357|E"
     ∷ []))
+    -- of a place only trailing zeros are left off
+    ∷ (placeText (place (bytes "OBX") 1 0 5 0 0) says bytes "OBX^1^0^5")
+    -- a number that is no reason has no condition
+    ∷ (decimal (condition 0) says bytes "0")
+    ∷ (decimal (condition 13) says bytes "0")
     -- the order of refusals
     ∷ (outcome (reply profile01 [] [] [] 0) says bytes "refused 1")
     ∷ (outcome (reply profile01 M (bytes "20241305101501") [] 0) says bytes "refused 11")
