@@ -2,7 +2,7 @@
 import re
 
 from drawing.layers import is_room, neighbours, ordered, placed, ports
-from drawing.sheet import BLUE, GREEN, MARGIN, ORANGE, PALE, WHITE, Sheet, breadth, short
+from drawing.sheet import BLUE, GREEN, MARGIN, ORANGE, PALE, WHITE, WIDTH, Sheet, breadth, short
 from drawing.sources import ROOT, fail, read
 
 
@@ -102,12 +102,11 @@ def look_of(room, uses, programs, c_side):
 
 def draw_key(sheet):
     """What the looks mean."""
-    x = MARGIN
-    for look, text in (("reader", "the reader"), ("below", "what it stands on"), ("program", "a program"), ("c side", "for C and Rust"), ("other", "other rooms")):
-        sheet.box(x, 54, 26, 16, rx=3, **LOOKS[look])
-        sheet.words(x + 33, 66, text)
-        x += 33 + breadth(text) + 10
-    sheet.words(x, 66, "slanted: laws alone, no code", font_style="italic")
+    told = {"reader": "the reader", "below": "below the reader", "program": "a program", "c side": "for C and Rust", "other": "other rooms"}
+    for k, (look, text) in enumerate(told.items()):
+        sheet.box(MARGIN + 136 * k, 54, 26, 16, rx=3, **LOOKS[look])
+        sheet.words(MARGIN + 136 * k + 33, 66, text)
+    sheet.words(WIDTH - MARGIN, 66, "slanted: laws alone, no code", at="end", font_style="italic")
 
 
 def draw_links(sheet, rows, pairs, at, tops, wide, tall):
@@ -135,7 +134,7 @@ def picture():
     told = ". ".join(f"{room} may use {', '.join(uses[room])}" for room in uses if uses[room])
     sheet = Sheet("The rooms and what each may use", f"From the lowest to the highest. {told}.")
     sheet.words(MARGIN, 30, "The rooms", 17, font_weight="bold")
-    sheet.words(MARGIN + 110, 30, "An arrow leads from a room down to one that it may use; none is drawn where others lead there already.", fill=PALE)
+    sheet.words(MARGIN + 110, 30, "Each is a crate. An arrow leads down from a room to one that it may use; none is drawn where others lead there.", fill=PALE)
     draw_key(sheet)
     draw_links(sheet, rows, pairs, at, tops, wide, tall)
     programs, c_side, laws = kinds(uses)

@@ -2,7 +2,7 @@
 import re
 
 from drawing.sheet import BLUE, GREY, MARGIN, ORANGE, PALE, WHITE, WIDTH, Sheet
-from drawing.sources import fail, found, place_name, read
+from drawing.sources import definition, fail, found, place_name, read
 
 SLIP, SLOT, RUN = "crates/slip/specs/Slip.antt", "crates/slot/specs/Slot.antt", "crates/slips/stdout"
 COUNT = "the group's OBX count"
@@ -10,11 +10,11 @@ COUNT = "the group's OBX count"
 
 def tags():
     """Each tag with what it holds, in 01's words."""
-    told = {}
-    for tag, segment, field in found(r'tagged (\d+) \((?:resolvedAt m \(bytes "(\w+)"\) \w+ (\d+)|twoBytes)', SLIP, "the values of a slip"):
+    lines, told = definition(SLIP, "slipValues"), {}
+    for tag, segment, field in re.findall(r'tagged (\d+) \((?:resolvedAt m \(bytes "(\w+)"\) \w+ (\d+)|twoBytes)', lines):
         told[int(tag)] = place_name(segment, int(field), 1) if segment else COUNT
-    if list(told) != sorted(told):
-        fail(f"{SLIP}: the tags do not rise")
+    if not told or list(told) != sorted(told) or len(told) != lines.count("tagged"):
+        fail(f"{SLIP}: the values of a slip are not in the form that is read here, or their tags do not rise")
     return told
 
 
@@ -32,11 +32,11 @@ def slot_bytes():
 def slip_fields():
     """Where each tagged field begins, its tag and its value; and where the zeros begin."""
     slot, at, fields = slot_bytes(), 0, []
-    while slot[at]:
+    while at + 3 < len(slot) and slot[at]:
         size = 256 * slot[at + 1] + slot[at + 2]
         fields.append((at, slot[at], slot[at + 3 : at + 3 + size]))
         at += 3 + size
-    if any(slot[at:]) or not {tag for _, tag, _ in fields} <= set(tags()):
+    if any(slot[at:]) or at >= len(slot) or not {tag for _, tag, _ in fields} <= set(tags()):
         fail(f"{RUN}: that is not a slip with zeros after it")
     return fields, at
 

@@ -10,10 +10,11 @@ START, END = "start", "end"
 
 def followers():
     """After each listed segment, and at the start, what may come; the end too."""
-    rows = re.findall(r'then "(\w*)" \(([^()]*)\)', definition(PROFILE, "succession"))
+    lines = definition(PROFILE, "succession")
+    rows = re.findall(r'then "(\w*)" \(([^()]*)\)', lines)
     told = {segment or START: re.findall(r'"(\w+)"', names) for segment, names in rows}
     ends = re.findall(r'"(\w+)"', definition(PROFILE, "ends"))
-    if START not in told or not ends or not {name for names in told.values() for name in names} | set(ends) <= set(told):
+    if START not in told or len(told) != lines.count("then") or not ends or not {name for names in told.values() for name in names} | set(ends) <= set(told):
         fail(f"{PROFILE}: the succession and the ends are not in the form that is read here")
     return {segment: names + [END] * (segment in ends) for segment, names in told.items()}
 
