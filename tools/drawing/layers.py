@@ -4,6 +4,8 @@ A stop is a room, told by its name, or a bend (room, height): there a line to th
 """
 from drawing.sheet import MARGIN, WIDTH
 
+LITTLE = 6
+
 
 def is_room(stop):
     return isinstance(stop, str)
@@ -114,12 +116,30 @@ def drawn(stop, near, at, is_late):
     return total(place * strength for place, strength in pulls) / whole, whole
 
 
-def upright(at, rows, down, little=6):
+def upright(at, rows, down):
     """What stands a little aside from what is below it stands straight above it."""
     for stop in (stop for row in rows for stop in row if stop in down):
         near = min((at[other] for other in down[stop]), key=lambda place: abs(place - at[stop]))
-        if abs(near - at[stop]) <= little:
+        if abs(near - at[stop]) <= LITTLE:
             at[stop] = near
+    return at
+
+
+def leeway(stop, row, at, wide):
+    """From where to where a stop may stand in its row."""
+    k = row.index(stop)
+    left = at[row[k - 1]] + gap(row[k - 1], stop, wide) - LITTLE if k else MARGIN
+    right = at[row[k + 1]] - gap(stop, row[k + 1], wide) + LITTLE if k + 1 < len(row) else WIDTH - MARGIN
+    return left, right
+
+
+def straightened(at, rows, wide):
+    """The bends of the lines to one room stand one above another, in as many rows as can be."""
+    for room in {stop[0]: True for row in rows for stop in row if not is_room(stop)}:
+        bends = {stop: leeway(stop, row, at, wide) for row in rows for stop in row if not is_room(stop) and stop[0] == room}
+        fits = {place: [stop for stop, (left, right) in bends.items() if left <= place <= right] for place in (at[room], *(at[stop] for stop in bends))}
+        best = max(fits, key=lambda place: len(fits[place]))
+        at.update({stop: best for stop in fits[best]})
     return at
 
 
@@ -134,7 +154,7 @@ def placed(rows, up, down, wide, turns=2400):
             wanted, strengths = zip(*(drawn(stop, up.get(stop, []) + down.get(stop, []), at, turn > turns / 3) for stop in row))
             gaps = [gap(*pair, wide) for pair in zip(row, row[1:])]
             at.update(zip(row, spread(wanted, strengths, gaps, edge, WIDTH - edge)))
-    return upright({stop: round(place) for stop, place in at.items()}, rows, down)
+    return straightened(upright({stop: round(place) for stop, place in at.items()}, rows, down), rows, wide)
 
 
 def ports(stop, near, at, wide):

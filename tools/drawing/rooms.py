@@ -103,9 +103,11 @@ def look_of(room, uses, programs, c_side):
 def draw_key(sheet):
     """What the looks mean."""
     told = {"reader": "the reader", "below": "below the reader", "program": "a program", "c side": "for C and Rust", "other": "other rooms"}
-    for k, (look, text) in enumerate(told.items()):
-        sheet.box(MARGIN + 136 * k, 54, 26, 16, rx=3, **LOOKS[look])
-        sheet.words(MARGIN + 136 * k + 33, 66, text)
+    x = MARGIN
+    for look, text in told.items():
+        sheet.box(x, 54, 26, 16, rx=3, **LOOKS[look])
+        sheet.words(x + 33, 66, text)
+        x += breadth(text) + 43
     sheet.words(WIDTH - MARGIN, 66, "slanted: laws alone, no code", at="end", font_style="italic")
 
 

@@ -61,20 +61,25 @@ def walk_steps():
     return steps_of
 
 
+def tested(test):
+    """The least and the greatest number that meets a test: ltb n 3, leb n 3, 4 to 7, or a number alone."""
+    numbers = [int(number) for number in re.findall(r"\d+", test)]
+    if test.startswith(("ltb", "leb")):
+        return 0, numbers[0] - test.startswith("ltb")
+    return numbers[0], numbers[-1]
+
+
 def conditions():
-    """The condition code of each reason: the first whose test the reason meets."""
-    meets = {"ltb": lambda a, b: a < b, "leb": lambda a, b: a <= b, "eqb": lambda a, b: a == b}
-    told, tests = {}, []
-    for test, bound, number in re.findall(r"\b(ltb|leb|eqb) n (\d+)\b|\b(\d+)\b", definition(FAULT, "condition")):
-        if test:
-            tests.append((test, int(bound)))
-        elif int(number) < 100:
-            tests.append(("eqb", int(number)))
-        else:
-            for reason in range(1, 13):
-                if not tests or any(meets[name](reason, limit) for name, limit in tests):
-                    told.setdefault(reason, int(number))
-            tests = []
+    """The condition code of each reason: a number from 100 on, and before it the tests that the reason may meet."""
+    told, ranges = {}, []
+    for test in re.findall(r"\b(?:ltb|leb) n \d+|\b\d+ to \d+|\b\d+", definition(FAULT, "condition")):
+        if not re.fullmatch(r"\d{3}", test):
+            ranges.append(tested(test))
+            continue
+        for reason in range(1, 13):
+            if not ranges or any(low <= reason <= high for low, high in ranges):
+                told.setdefault(reason, int(test))
+        ranges = []
     if sorted(told) != list(range(1, 13)):
         fail(f"{FAULT}: the condition of each reason, 1 to 12, is not found")
     return dict(sorted(told.items()))
@@ -83,7 +88,7 @@ def conditions():
 def listed_places():
     """The reasons of the lists, each with the places that have it."""
     told = {}
-    for place, _, reason in constant("tools/profile", "LISTS"):
+    for place, *_, reason in constant("tools/profile", "LISTS"):
         told.setdefault(reason, []).append(place_name(*place))
     return dict(sorted(told.items()))
 
