@@ -2,7 +2,7 @@
 -- counts, occurrence and repetition, are below 1,000.
 use mathlib.Core.Path.{_≡_, refl}
 use mathlib.Core.List.{flatMap}
-use Prim.Native.Nat.{ℕ, _≤_, _<_}
+use Prim.Native.Nat.{ℕ, suc, _≤_, _<_}
 use native.Mathlib.Omega.{arith}
 use mathlib.Core.Bool.{Bool, true, _&&_}
 use lib.ListN.{length, length-take}
@@ -68,9 +68,9 @@ verdict-small T ok m =
     (record {
       out-of-place = λ n o h. at-field n o 0 0 h (omega arith);
       end = λ n o h. at-field n o 0 0 h (omega arith);
-      missing = λ n o f h g. at-field n o f 1 h (ltb-true f 1000 g);
-      surplus = λ n o f r h g. at-field n o f r h (ltb-true f 1000 g);
-      leaf = λ n o f r l h g e. let p = at-leaf n o f r l h (ltb-true f 1000 g) e in (p, (p, (p, (p, tt))));
-      list = λ n o f r l h g e codes why is. at-leaf n o f r l h (ltb-true f 1000 g) e;
+      missing = λ n o f h g. at-field n (suc o) f 1 h (ltb-true f 1000 g);
+      surplus = λ n o f r h g. at-field n (suc o) f (suc r) h (ltb-true f 1000 g);
+      leaf = λ n o f r l h g e. let p = at-leaf n (suc o) f (suc r) l h (ltb-true f 1000 g) e in (p, (p, (p, (p, tt))));
+      list = λ n o f r l h g e codes why is. at-leaf n (suc o) f (suc r) l h (ltb-true f 1000 g) e;
     })
     (omega arith) (λ s. omega (arith, length-take 3 s)) m
