@@ -154,7 +154,7 @@ module _ (s : Text) (base tag : ℕ) (found : Value) (at k : ℕ) (c : ReadTo s 
                 (rw next (value-past k (mostOf k) (eqb k placerTag) (fieldsFrom (countTag - (k + 1)) (k + 1)) tag base at e s (reads .1 .0) w)) (c .seen);
           }
 
-  -- behind the five: the count and the zeros decide whether it is a slip
+  -- after the five: the count and the zeros decide whether it is a slip
   module _ (last : countTag ≤ k) (b : Bool) (ends : b ≡ isSlipFrom [] (drop at s)) where
     none-left : fieldsFrom (countTag - k) k ≡ []
     unfolding fieldsFrom

@@ -32,7 +32,7 @@ use Rattle.book.proofs.Fields.{Brief, Held, Reads, told, held-full}
 use Rattle.book.proofs.Whole.{slip-length, slip-reads}
 use Rattle.book.proofs.Slots.{filed, filed-length, filed-from, filed-slot, filed-other, filed-reads, filed-bytes}
 
--- the values are such as a slip holds
+-- the values are those that a slip may hold
 marks-plain : (m : Text) → PlainMarks (marksOf m)
 unfolding marksOf
 marks-plain m = usual-plain

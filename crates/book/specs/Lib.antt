@@ -2,7 +2,7 @@
 pub mod Read
 pub mod Told
 pub mod Promise
--- No entry's promise is made of this: it is a theorem about the entries.
+-- A demand is said with this.
 pub mod RoundTrip
 -- Inner: no entry's promise is made of this.
 pub mod Inner

@@ -1,4 +1,4 @@
--- No entry's promise is made of this: it is a theorem about the entries, and the demands use its words.
+-- A demand is said with this.
 -- THE ROUND TRIP. After a filing, reading a tag of that slot gives the value that was filed, and every other slot reads as before.
 use Prim.Native.Nat.{ℕ}
 use mathlib.Core.Path.{_≡_}

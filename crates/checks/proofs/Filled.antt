@@ -33,7 +33,7 @@ late-none k read [] h = refl
 late-none k read (t ∷ ts) h =
     late-step (isFilled (read t)) k (read t) (filledFrom (suc k) read ts) h (late-none (suc k) read ts (omega arith))
 
--- no leaf stands in no bytes, and none behind the last component
+-- no leaf stands in no bytes, and none after the last component
 pub no-leaf : (q : Marks) (c b : ℕ) → leafIn q [] c b ≡ []
 no-leaf q c b = part-nil (inRepetition q c b)
 

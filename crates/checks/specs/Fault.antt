@@ -1,14 +1,12 @@
 -- An entry's promise is made of this.
 -- The checks of a message in the order of the walk. Its fault is the first that is broken; it is accepted where none is.
 use Prim.Native.Nat.{ℕ, suc}
-use mathlib.Core.Path.{_≡_}
 use mathlib.Core.Bool.{Bool, true, false, not, _&&_}
 use mathlib.Core.List.{List, [], _∷_, _++_, flatMap}
 use lib.ListN.{length}
 use lib.Dec.{eqb}
 use Rattle.text.specs.Bytes.{Text, pick, empty, some, keep, same, isOne}
 use Rattle.text.specs.Answer.{Answer, first}
-use Rattle.text.specs.First.{none, First}
 use Rattle.text.specs.declared.marks.Marks.{Marks}
 use Rattle.text.specs.Marks.{marksOf}
 use Rattle.escape.specs.Escape.{badEscape}
@@ -94,19 +92,6 @@ pub data Verdict : Type 0 where
 unfoldable pub firstBroken : List Check → Verdict
 firstBroken [] = accepted
 firstBroken (c ∷ cs) = pick (c .broken) (fault (c .place) (c .reason)) (firstBroken cs)
-
--- said as such: none of them is broken; the first broken one has that place and reason
-abbrev pub isBroken : Check → Bool
-isBroken c = c .broken
-
-abbrev pub noneBroken : List Check → Bool
-noneBroken cs = none isBroken cs
-
-pub record FirstBroken (cs : List Check) (p : Place) (n : ℕ) : Type 0 where
-  pub found : Check
-  pub first : First isBroken cs found
-  pub place : found .place ≡ p
-  pub reason : found .reason ≡ n
 
 -- the verdict on a message whose frame is good
 unfoldable pub verdict : Table → Text → Verdict

@@ -4,7 +4,9 @@ pub mod Shown
 pub mod LookUp
 pub mod View
 pub mod Fault
--- No entry's promise is made of these: a theorem about the definitions, and cases that try them.
+-- A demand is said with this.
+pub mod First
+-- No entry's promise is made of these: theorems about the definitions, and cases that try them.
 pub mod Separators
 pub mod Cases
 -- Inner: no entry's promise is made of these.

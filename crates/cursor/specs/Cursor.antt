@@ -1,3 +1,4 @@
+-- Inner: no entry's promise is made of this.
 -- What a cursor promises, which only inner functions ask for: it stands at a piece.
 use Prim.Native.Nat.{ℕ, _+_, _≤_}
 use mathlib.Core.Path.{_≡_}

@@ -32,7 +32,7 @@ module _ (sep : ℕ) (t : Text) (e : ℕ) (ends : e ≡ 0 + reach sep t) where
   pub first-bytes : within 0 e t ≡ piece 1 (split sep t)
   first-bytes = within-piece t sep 1 0 e (sym (before-first sep t)) (omega (arith, ends, first-length sep t))
 
--- WHAT STANDS BEHIND SEPARATORS, told from where a loop stands that has `left` of them to pass
+-- WHAT STANDS AFTER SEPARATORS, told from where a loop stands that has `left` of them to pass
 abbrev pub Left : ℕ → Text → ℕ → ℕ → ℕ → Type 0
 Left sep t n left from = (i : ℕ) → getD (split sep (drop from t)) (left + i) [] ≡ getD (split sep t) (n + i) []
 
@@ -121,7 +121,7 @@ module _ (s : Text) (f : ℕ) (e : isHeader s ≡ true) (cut : unsplit s f ≡ f
   pub split-fields : (q : Marks) (t : Text) → Behind (q .field) (f - 2 - 1) (drop 9 s) t → FieldsFrom q s f t
   split-fields q t b = header-fields q s f t e split-third b
 
--- THE FIRST LEAF of a component, behind so many others
+-- THE FIRST LEAF of a component, after so many others
 pub component-leaf : (q : Marks) (k : ℕ) (t u : Text) → Behind (q .component) k t u → firstLeaf q u ≡ partText (inRepetition q (suc k) 1) t
 unfolding partText
 component-leaf q k t u b = let e : k + 0 ≡ k = omega arith in rw (b 0, e)
@@ -146,7 +146,7 @@ pub leaf-nought : (q : Marks) (s : Text) (f c : ℕ) → unsplit s f ≡ false �
 unfolding partText
 leaf-nought q s f c cut e = rw (leaf-split q s f 1 c 1 cut, e) (sym (piece-nil (q .subcomponent) 1))
 
--- BEHIND SOME, and then behind some more
+-- AFTER SOME, and then after some more
 pub behind-both : (sep a b : ℕ) (t u w : Text) → Behind sep a t u → Behind sep b u w → Behind sep (a + b) t w
 behind-both sep a b t u w h g = λ i. let e : a + (b + i) ≡ a + b + i = omega arith in rw e at (g i ∙ h (b + i))
 

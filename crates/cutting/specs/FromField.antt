@@ -1,3 +1,4 @@
+-- Inner: no entry's promise is made of this.
 -- What stands of a text from a piece on, and of a segment from a field on. Only inner functions promise it.
 use mathlib.Core.Path.{_≡_}
 use Prim.Native.Nat.{ℕ, _+_}
@@ -11,7 +12,7 @@ use Rattle.parts.specs.Descent.{inRepetition}
 use Rattle.parts.specs.Span.{partText}
 use Rattle.frame.specs.Segments.{field}
 
--- r is what stands of t behind n separators
+-- r is what stands of t after n separators
 abbrev pub Behind : ℕ → ℕ → Text → Text → Type 0
 Behind sep n t r = (i : ℕ) → getD (split sep r) i [] ≡ getD (split sep t) (n + i) []
 

@@ -37,7 +37,7 @@ groupsOf ss zero = 0
 groupsOf ss (suc n) = observationsFrom ss n + groupsOf ss n
 
 module _ (s : Text) (ss : List Text) where
-  -- an OBR opens a group; any other segment leaves the groups behind it as they are
+  -- an OBR opens a group; any other segment leaves the groups after it as they are
   order-opens : named order s ≡ true → (n : ℕ) → groupsOf (s ∷ ss) (suc n) ≡ observations ss + groupsOf ss n
   unfolding groupsOf observationsFrom
   order-opens e zero = rw e
@@ -95,7 +95,7 @@ opening = map bytes ("" ∷ "MSH" ∷ "PID" ∷ "NK1" ∷ "ORC" ∷ [])
 abbrev leadsOn : Succession → Bool
 leadsOn s = not (isOne (s .segment) opening) || every (λ n. isOne n (order ∷ opening)) (s .then)
 
--- behind each of them comes one of them, or OBR: the whole succession, tested once
+-- after each of them comes one of them, or OBR: the whole succession, tested once
 leads-on : All (λ s. leadsOn s ≡ true) (profile01 .succession)
 unfolding profile01 every some same
 leads-on = every-all leadsOn (profile01 .succession) refl
@@ -127,7 +127,7 @@ module _ (q : Marks) where
   abbrev walkOn : List Text → Text → List Text → List Check
   walkOn ns last ss = walk profile01 q ns last (map (segmentSeen profile01 q) ss)
 
-  -- a walk with no broken check: its first segment may stand there, and the walk behind it has none
+  -- a walk with no broken check: its first segment may stand there, and the walk after it has none
   walk-first : (ns : List Text) (last s : Text) (ss : List Text) → Unbroken (walkOn ns last (s ∷ ss))
       → (mayFollow profile01 last (name s) ≡ true) × Unbroken (walkOn (name s ∷ ns) (name s) ss)
   unfolding walk segmentSeen

@@ -31,7 +31,8 @@ use Rattle.reader.specs.Place.{Place, standsAt, textAt}
 use Rattle.reader.proofs.Stands.{stands-text}
 use Rattle.reader.specs.LookUp.{Empty, Text-from-to, found, lookUpTests, lookUp}
 use Rattle.reader.specs.Told.{placeOf, foundOf}
-use Rattle.reader.specs.Fault.{checks, noneBroken, fault, verdict, judge}
+use Rattle.reader.specs.Fault.{checks, fault, verdict, judge}
+use Rattle.reader.specs.First.{noneBroken}
 use Rattle.reader.specs.Promise.{LooksUp, Judges}
 use Rattle.reader.proofs.LookUp.{shown-step, shown-empty}
 use Rattle.reader.proofs.Part.{looked-up-text}

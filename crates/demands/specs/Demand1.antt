@@ -1,3 +1,4 @@
+-- A demand is said with this.
 -- DEMAND 1: ANSWERED, ENDED, UNTOUCHED. The user must be certain that every message and every call gets an answer and ends; that a
 -- refusal carries the first number that applies in 01's order, and leaves the slip book or the reply buffer byte for byte as it was;
 -- and that a filed slip changes its own slot and nothing else.

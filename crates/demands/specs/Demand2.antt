@@ -1,3 +1,4 @@
+-- A demand is said with this.
 -- DEMAND 2: RIGHT. The user must be certain that a message is accepted exactly when it has no fault, and that otherwise the answer is
 -- its first fault, with place and reason; that replies and slips have exactly the bytes that 01 lays down; and that a slip read back
 -- gives the values filed.
@@ -25,7 +26,8 @@ use Rattle.reader.specs.declared.Verdict.{Verdict}
 use Rattle.reader.specs.declared.Verdict.the-variants.{Accepted, Fault}
 use Rattle.reader.specs.declared.search.LookedUp.{LookedUp}
 use Rattle.reader.specs.Place.{Place, standsAt, textAt}
-use Rattle.reader.specs.Fault.{checks, noneBroken, FirstBroken, condition}
+use Rattle.reader.specs.Fault.{checks, condition}
+use Rattle.reader.specs.First.{noneBroken, FirstBroken}
 use Rattle.reader.specs.Told.{placeOf}
 use Rattle.text.specs.Part.{VeryPart}
 use Rattle.reader.specs.Promise.{LooksUp, Judges}

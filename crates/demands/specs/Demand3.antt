@@ -1,3 +1,4 @@
+-- A demand is said with this.
 -- DEMAND 3: A NEWER SENDER'S ADDITIONS ALTER NOTHING. Of a message that passes the eight frame checks everything that the table does not list is
 -- struck out (`strike`). The user must be certain that what the definition of demand 2 gives for the struck message is what we
 -- give for the message as it came: the verdict with its place and reason, the look-up answer at each listed place (of a text its bytes), the

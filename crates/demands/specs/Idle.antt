@@ -1,3 +1,4 @@
+-- A demand is said with this.
 -- THE FIVE IDLE BUILDS that 01 names, each at odds with one statement about what the entries promise.
 use mathlib.Core.Path.{_≡_}
 use Prim.Native.Nat.{ℕ, zero, suc, _+_, _≤_}

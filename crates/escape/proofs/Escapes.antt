@@ -114,7 +114,7 @@ module _ (q : Marks) where
   unfolding resolved stops
   resolved-none = refl
 
-  pub byte-bad : (b : ℕ) (t : Text) → eqb b (q .escape) ≡ false → badEscape q (b ∷ t) ≡ badEscape q t
+  byte-bad : (b : ℕ) (t : Text) → eqb b (q .escape) ≡ false → badEscape q (b ∷ t) ≡ badEscape q t
   byte-bad b t h = bad-step b t false false h (byte-none b t h)
 
   byte-resolved : (b : ℕ) (t : Text) → eqb b (q .escape) ≡ false → resolved q (b ∷ t) ≡ b ∷ resolved q t
@@ -134,7 +134,7 @@ pub record Goes (q : Marks) (t : Text) (i n b : ℕ) : Type 0 where
   pub bad : badEscape q (drop i t) ≡ badEscape q (drop n t)
   pub reads : resolved q (drop i t) ≡ b ∷ resolved q (drop n t)
 
--- the same at the front of a text
+-- an escape at the front of a text is passed over whole
 goes-front : (q : Marks) (t : Text) → isEscape q t ≡ true → Goes q t 0 3 (meant q (getD t 1 0))
 goes-front q [] e = not-true (sym (escape-few q [] (omega arith)) ∙ e)
 goes-front q (b ∷ []) e = not-true (sym (escape-few q (b ∷ []) (omega arith)) ∙ e)
@@ -162,8 +162,8 @@ module _ (q : Marks) (t : Text) (i : ℕ) where
         reads = rw (add-one, drop-cons t i 0) (byte-resolved q (getD t i 0) (drop (suc i) t) f);
       }
 
-  pub goes-escape : i < length t → isEscape q (drop i t) ≡ true → Goes q t i (i + 3) (meant q (getD t (i + 1) 0))
-  goes-escape h e =
+  pub goes-escape : isEscape q (drop i t) ≡ true → Goes q t i (i + 3) (meant q (getD t (i + 1) 0))
+  goes-escape e =
       let g = goes-front q (drop i t) e in
       record {
         within = omega (arith, simp length-drop at (g .within));
@@ -183,9 +183,9 @@ module _ (q : Marks) (t : Text) (i : ℕ) where
 
   -- in a text with no bad escape each \ that is read begins an escape
   pub goes-good : i < length t → getD t i 0 ≡ q .escape → badEscape q (drop i t) ≡ false → Goes q t i (i + 3) (meant q (getD t (i + 1) 0))
-  goes-good h e g = goes-escape h (good-step h e g (isEscape q (drop i t)) refl)
+  goes-good h e g = goes-escape (good-step h e g (isEscape q (drop i t)) refl)
 
-  -- the same told by the bytes at i
+  -- whether one begins at i, told by the bytes there
   pub escape-short : length t - i < 3 → isEscape q (drop i t) ≡ false
   escape-short h = escape-few q (drop i t) (simp length-drop (omega arith))
 

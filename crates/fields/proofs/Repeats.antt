@@ -38,7 +38,7 @@ brokenIn q n o f rs = firstBroken (flatMap (repetitionChecks q n o f) rs)
 abbrev pub foundIn : Text → ℕ → ℕ → ReadField → Verdict
 foundIn n o f r = told (place n o f (r .repetition) (r .component) (r .subcomponent)) (r .reason)
 
--- the reader stands at that repetition: those left to read are that one and the ones behind it
+-- the reader stands at that repetition: those left to read are that one and the ones after it
 pub record Repeats (q : Marks) (ls : List Leaf) (x : Text) (number : ℕ) (left : List Text) (r : ReadField) : Type 0 where
   pub numbered : 1 ≤ number
   pub surplus : r .surplus ≡ false

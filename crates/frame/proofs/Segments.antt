@@ -46,7 +46,7 @@ pub occurrence-stands : (m n : Text) (o : ℕ) → Stands m (occurrenceStart m n
 occurrence-stands m n zero = refl
 occurrence-stands m n (suc i) = rw (ahead-named n (segments m) i) (segment-stands m (ahead n (segments m) i))
 
--- what stands behind j bytes and before k
+-- what stands after j bytes and before k
 head-stands : (k : ℕ) (s : Text) → Stands s 0 (take k s)
 head-stands zero s = refl
 head-stands (suc k) [] = refl

@@ -1,4 +1,4 @@
--- The reply's header: what is copied of the message's own header, and its texts one behind another.
+-- The reply's header: what is copied of the message's own header, and its texts one after another.
 use mathlib.Core.Path.{_≡_, refl, sym, ap, _∙_}
 use Prim.Native.Nat.{ℕ, _+_, _≤_}
 use native.Mathlib.Omega.{arith}
@@ -22,7 +22,7 @@ use Rattle.reader.proofs.Cutting.{third-split, component-leaf, field-leaves, be
 use Rattle.heading.specs.Header.{headerLeaf, orEmpty, hdOf, copiedHD, processing, replyHeader}
 use Rattle.heading.specs.Inner.{HeaderFrom, leafThere, hdThere, withSeparator, parties}
 
--- the length of texts that stand one behind another
+-- the length of texts that stand one after another
 length-three : (a b c : Text) → length ((a ++ b) ++ c) ≡ length a + length b + length c
 length-three a b c = simp length-append
 
@@ -32,7 +32,7 @@ length-four a b c d = simp length-append
 length-six : (a b c d e f : Text) → length (((((a ++ b) ++ c) ++ d) ++ e) ++ f) ≡ length a + length b + length c + length d + length e + length f
 length-six a b c d e f = simp length-append
 
--- the second and the third component of an HD, each behind its separator, where it or a later one is filled
+-- the second and the third component of an HD, each after its separator, where it or a later one is filled
 abbrev second : Text → Text → Text
 second b c = pick (ltb 0 (length c) || ltb 0 (length b)) (byte "^" ∷ b) []
 
@@ -113,7 +113,7 @@ parties-copied m {q} k t u w x from i j l =
     rw (k, hd-there m 3 t from (omega arith), hd-there m 4 u (rw k at fourth) (omega arith), hd-there m 5 w (rw k at fifth) (omega arith), hd-there m 6 x (rw k at sixth) (omega arith)) in
     record { written = e; size = ap length (sym e) ∙ length-four a b c d }
 
--- MSH-11.1, the field behind the control number's
+-- MSH-11.1, the field after the control number's
 pub processing-copied : (m : Text) {q : Marks} → q ≡ marksOf m → (t u r : Text) → HeaderFrom m 10 t → Behind (q .field) 1 t u
     → r ≡ firstLeaf q (firstRepetition q u) → processing r ≡ processing (headerLeaf m 11 1)
 processing-copied m {q} k t u r from b e =
@@ -129,7 +129,7 @@ module _ (t : Text) {b : Bool} (told : b ≡ isOne t processing-ids) where
   pub processing-other : b ≡ false → processing t ≡ bytes "P"
   processing-other e = rw (← told, e)
 
--- the header's texts, one behind another: z stands between the fields
+-- the header's texts, one after another: z stands between the fields
 spread : (z h a b c d s k n p v e : Text)
     → ((((((h ++ ((((a ++ z) ++ (b ++ z)) ++ (c ++ z)) ++ (d ++ z))) ++ s) ++ (z ++ (z ++ (k ++ z)))) ++ n) ++ z) ++ p) ++ (z ++ (v ++ e))
     ≡ (h ++ (a ++ (z ++ (b ++ (z ++ (c ++ (z ++ (d ++ (z ++ (s ++ (z ++ (z ++ (k ++ (z ++ (n ++ (z ++ (p ++ (z ++ v)))))))))))))))))) ++ e

@@ -35,7 +35,7 @@ copiedHD m f = hdOf (marksOf m) (headerLeaf m f 1) (headerLeaf m f 2) (headerLea
 abbrev pub processing : Text → Text
 processing t = pick (isOne t processing-ids) t (bytes "P")
 
--- the header's fields behind its ninth byte
+-- the header's fields after its ninth byte
 abbrev pub headerFields : Text → Text → Text → List Text
 headerFields m stamp number =
     copiedHD m 5

@@ -28,7 +28,7 @@ leafThere q t c = partText (inRepetition q c 1) (firstRepetition q t)
 abbrev pub hdThere : Marks → Text → Text
 hdThere q t = hdOf q (leafThere q t 1) (leafThere q t 2) (leafThere q t 3)
 
--- a field with the separator behind it
+-- a field with the separator after it
 abbrev pub withSeparator : Text → Text
 withSeparator t = t ++ byte "|" ∷ []
 

@@ -211,7 +211,7 @@ module _ {s : Text} {q : Marks} {table : List ℕ} where
       pub reading-reason : reasonFits (l .list) ≡ true
       reading-reason = rise .1
 
-      -- its component is behind the last
+      -- its component is after the last
       module _ (missing : ltb (c .number) (getD table (at + componentColumn) 0) && leb (length s) (c .end) ≡ true) where
         none-left : entriesOf q (leaves table at end) s ≡ entriesOf q (leaves table at end) []
         none-left =

@@ -1,3 +1,4 @@
+-- Inner: no entry's promise is made of this.
 -- What only inner functions promise of judging a repetition: its first broken check, told from where a reader stands.
 use Prim.Native.Nat.{ℕ}
 use mathlib.Core.Path.{_≡_}

@@ -24,7 +24,7 @@ use profile::columns;
 use profile::numbers;
 use text::Marks;
 
-// Where a segment's fields begin: the header's third behind its ninth byte, any other's first behind its name and one
+// Where a segment's fields begin: the header's third after its ninth byte, any other's first after its name and one
 // separator.
 pub fn fields_start(s: &[u8], k: u16) -> usize
     ensures { λ r. ⌜ r ≡ min (fieldsFrom k) (length (now (s .entry))) ⌝ }

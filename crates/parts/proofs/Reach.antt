@@ -36,7 +36,7 @@ module _ (sep : ℕ) where
   first-length [] = refl
   first-length (b ∷ t) = first-step b (eqb b sep) (split sep t) (reach sep t) (split-some sep t) (first-length t)
 
-  -- a separator is ahead: it ends the first piece, and the rest is cut behind it
+  -- a separator is ahead: it ends the first piece, and the rest is cut after it
   next-step : (b : ℕ) (t : Text) (c : Bool)
       → (reach sep t < length t → split sep t ≡ take (reach sep t) t ∷ split sep (drop (suc (reach sep t)) t))
       → pick c 0 (suc (reach sep t)) < suc (length t)

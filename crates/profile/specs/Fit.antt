@@ -1,4 +1,4 @@
--- No entry's promise is made of this; demand 3 is said of it.
+-- A demand is said with this.
 -- What a table must be for demand 3.
 use Prim.Native.Nat.{ℕ}
 use Prim.Native.String as string

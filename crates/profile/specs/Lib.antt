@@ -1,4 +1,4 @@
--- Entries' promises are made of these, in the order to be read.
+-- An entry's promise is made of these.
 pub mod Table
 pub mod Noted
 pub mod Limits
@@ -6,8 +6,9 @@ pub mod Lists
 pub mod Leaves
 pub mod Fields
 pub mod Profile
--- Demand 3, and a theorem of the profile, are said of these.
+-- A demand is said with this.
 pub mod Fit
+-- No entry's promise is made of this: it is a theorem about the definitions.
 pub mod Rising
 -- Inner: no entry's promise is made of these.
 pub mod Numbers

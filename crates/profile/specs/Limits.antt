@@ -5,7 +5,11 @@ use mathlib.Core.List.{List, [], _∷_}
 use Rattle.profile.specs.Table.{Simple, SI, NM, DTM, TM, ST, TX, FT, ID, IS}
 use Rattle.profile.specs.Noted.{Noted, at}
 
--- by type
+-- one that is asked for elsewhere too: of MSH-10, by a reply
+abbrev pub controlLimit : ℕ
+controlLimit = 20
+
+-- LIMITS BY TYPE
 abbrev pub limitOf : Simple → ℕ
 limitOf SI = 4
 limitOf ID = 20
@@ -16,10 +20,6 @@ limitOf DTM = 24
 limitOf ST = 199
 limitOf TX = 4096
 limitOf FT = 4096
-
--- one that is asked for elsewhere too: of MSH-10, by a reply
-abbrev pub controlLimit : ℕ
-controlLimit = 20
 
 -- LIMITS OF THEIR OWN: segment, field, component; limit
 abbrev pub ownLimits : List (Noted ℕ)

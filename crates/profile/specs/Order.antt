@@ -43,7 +43,7 @@ listsLeaf r = not (isNamed r) && leb 1 (getD r componentColumn 0) && reasonFits 
 -- a field's number is one from 1; of the header from 3, since MSH-1 and MSH-2 are its separators. A type's rows are of one field
 abbrev pub fieldFits : List ℕ → Bool
 fieldFits r =
-    leb (firstField (getD r segmentColumn 0)) (getD r fieldColumn 0) && (ltb (getD r segmentColumn 0) firstType || eqb (getD r fieldColumn 0) 1 && not (isNamed r))
+    leb (firstField (getD r segmentColumn 0)) (getD r fieldColumn 0) && (ltb (getD r segmentColumn 0) firstType || (eqb (getD r fieldColumn 0) 1 && not (isNamed r)))
 
 -- a row whose type another field names has type 10 and that field's number: one from 1, of the header from 3
 abbrev pub namerFits : List ℕ → Bool
@@ -98,8 +98,8 @@ takesUpTo n l =
 abbrev pub isSure : List ℕ → List (List ℕ) → Bool
 isSure r rs =
     eqb (getD r sureColumn 0) 0
-    || eqb (getD r componentColumn 0) 1
-    && every (λ (x : List ℕ). takesUpTo (getD r sureColumn 0) (leafOf x)) (take (ofField (getD r fieldColumn 0) (r ∷ rs)) (r ∷ rs))
+    || (eqb (getD r componentColumn 0) 1
+    && every (λ (x : List ℕ). takesUpTo (getD r sureColumn 0) (leafOf x)) (take (ofField (getD r fieldColumn 0) (r ∷ rs)) (r ∷ rs)))
 
 -- both hold of each of these rows, the first of which begins at that place
 unfoldable pub guides : ℕ → List (List ℕ) → Bool
@@ -109,7 +109,7 @@ guides at (r ∷ rs) = leads at r rs && isSure r rs && guides (at + rowSize) rs
 abbrev pub numbers : List ℕ
 numbers = 1 ∷ 2 ∷ 3 ∷ 4 ∷ 5 ∷ 6 ∷ 7 ∷ 8 ∷ 9 ∷ 10 ∷ 11 ∷ 12 ∷ 13 ∷ 14 ∷ 15 ∷ 16 ∷ []
 
--- the rows behind the index; under each number some begin and end among them, whole rows apart, and guide the reader through them
+-- the rows after the index; under each number some begin and end among them, whole rows apart, and guide the reader through them
 abbrev pub behind : ℕ
 behind = noType + 2
 

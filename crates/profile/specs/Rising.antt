@@ -1,4 +1,4 @@
--- No entry's promise is made of this; a theorem of the profile is (profile-rises).
+-- No entry's promise is made of this: it is a theorem about the definitions.
 -- Said of 01's table as a whole: strictly rising place order.
 use Prim.Native.Nat.{ℕ}
 use mathlib.Core.Bool.{Bool, true, false, _&&_, _||_}
@@ -12,7 +12,7 @@ use Rattle.profile.specs.Numbers.{segmentNames, segmentNumber}
 unfoldable pub before : List ℕ → List ℕ → Bool
 before [] ys = false
 before (x ∷ xs) [] = false
-before (x ∷ xs) (y ∷ ys) = ltb x y || eqb x y && before xs ys
+before (x ∷ xs) (y ∷ ys) = ltb x y || (eqb x y && before xs ys)
 
 -- each place is before the next
 unfoldable pub inOrder : List (List ℕ) → Bool

@@ -7,6 +7,8 @@ pub use Rattle.checks.specs.Fault
 pub mod Told
 pub mod Part
 pub mod Promise
+-- A demand is said with this.
+pub use Rattle.checks.specs.First
 -- Inner: no entry's promise is made of these.
 pub use Rattle.checks.specs.Starts
 pub use Rattle.checks.specs.Repetition

@@ -65,7 +65,7 @@ trimmed-length : (sep : ℕ) (ps : List Text) (k : ℕ) → total ps ≤ suc k �
 trimmed-length sep ps k h = omega (arith, join-length sep (trimmed ps), trimmed-total ps)
 
 -- 2. Numbers: below 1,000 they have three digits at most
--- the first digit; a digit behind others
+-- the first digit; a digit after others
 module _ (k n : ℕ) (t : Text) where
   digits-first : n < 10 → length (digitsBefore (suc k) n t) ≤ 1 + length t
   unfolding digitsBefore

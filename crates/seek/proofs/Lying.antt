@@ -46,7 +46,7 @@ module _ (p : Span) (k : ℕ) (t : Text) (is : p ≡ span k t) where
   between-none l =
       shown-none k t (omega (arith, ap (λ (s : Span). s .start) is, ap (λ (s : Span). s .end) is))
 
--- the fields behind some bytes of a segment
+-- the fields after some bytes of a segment
 drop-take : (k n : ℕ) (l : Text) → drop k (take n l) ≡ take (n - k) (drop k l)
 drop-take zero n l = rw sub-zero
 drop-take (suc k) zero l = rw zero-sub
@@ -98,7 +98,7 @@ module _ (q : Marks) (n : Numbers) (k : ℕ) (s : Text) where
       let z : 4 + (a + p) ≡ 4 + a + p = omega arith in
       g ∙ sym (split-found q s (n .field) (n .repetition) (n .component) (n .subcomponent) k (rw e) ∙ rw (field-other q s (n .field) e, e, z))
 
--- that of a header, from MSH-3 on: the fields stand behind nine bytes, and two numbers are taken
+-- that of a header, from MSH-3 on: the fields stand after nine bytes, and two numbers are taken
 third : (q : Marks) (f r c b k : ℕ) (s : Text) → isHeader s ≡ true → 3 ≤ f
     → leafBehind q (record { field = f - 2; repetition = r; component = c; subcomponent = b }) k 9 s
     ≡ leafFound q (record { field = f; repetition = r; component = c; subcomponent = b }) k s

@@ -1,4 +1,4 @@
--- The observations of a group: the segments behind its OBR, counted from where it ends.
+-- The observations of a group: the segments after its OBR, counted from where it ends.
 use mathlib.Core.Path.{_≡_, refl, sym, ap}
 use Prim.Native.Nat.{ℕ, zero, suc, _+_, _≤_, _<_}
 use native.Mathlib.Numerals.{add-one}
@@ -23,7 +23,7 @@ use Rattle.frame.proofs.Segments.{ahead-named}
 use Rattle.reader.proofs.Seek.{standing-enough, standing-start, standing-inside, standing-text}
 use Rattle.reader.specs.Observations.{observations, observationsFrom, observationsOf}
 
--- where a piece that a separator ends stands, and what stands behind it
+-- where a piece that a separator ends stands, and what stands after it
 module _ (sep : ℕ) where
   ahead-step : (t : Text) (b : Bool) → ltb (reach sep t) (length t) ≡ b → 1 ≤ length (ended sep t) → reach sep t < length t
   ahead-step t true e h = ltb-true (reach sep t) (length t) e
@@ -71,7 +71,7 @@ unfolding keep
 ahead-inside n [] i h = absurd (omega arith)
 ahead-inside n (s ∷ ss) i h = inside-step n s ss (named n s) refl (ahead-inside n ss) i h
 
--- THE COUNT of the group whose OBR stands there, told from behind that OBR's CR
+-- THE COUNT of the group whose OBR stands there, told from after that OBR's CR
 pub group-count : (m : Text) (g a e : ℕ) → 1 ≤ g → Segment a e ≡ standing m (bytes "OBR") g
     → (e < length m) × (observations (segments (drop (e + 1) m)) ≡ observationsOf m g)
 group-count m zero a e l o = absurd (omega arith)

@@ -12,7 +12,7 @@ use libc::STDOUT_FILENO;
 use slip::Filed;
 use slip::SLOT_SIZE;
 
-// A byte of the slip is printed as two digits and what stands behind them.
+// A byte of the slip is printed as two digits and what stands after them.
 const LINES_SIZE: usize = 3 * SLOT_SIZE;
 
 // The lines that tell the slip's bytes, as it is filed in a book of one slot, or a refusal.

@@ -25,7 +25,7 @@ front-count false b [] (r ∷ rs) e = absurd (omega arith)
 front-count false b (p ∷ ps) [] e = absurd (omega arith)
 front-count false b (p ∷ ps) (r ∷ rs) e = e
 
--- behind bytes that stay, pieces as many as before
+-- after bytes that stay, pieces as many as before
 count-behind : (sep : ℕ) (F : Text → Text) → ((t : Text) → pieces sep (F t) ≡ pieces sep t)
     → (k : ℕ) (s : Text) → pieces sep (take k s ++ F (drop k s)) ≡ pieces sep s
 unfolding split

@@ -1,3 +1,4 @@
+-- A demand is said with this.
 -- Demand 3 takes a message and strikes out, beyond its first nine bytes, each segment that the table doesn't name, its CR too, and
 -- the content of each unlisted field, component and subcomponent; the separators around them stay.
 use Prim.Native.Nat.{ℕ, suc}

@@ -1,3 +1,4 @@
+-- A demand is said with this.
 -- WHAT STRIKING DOES, so that demand 3 is not empty: what the table lists stays, all else goes, and the separators around it stay.
 use mathlib.Core.Path.{_≡_}
 use Prim.Native.Nat.{ℕ}

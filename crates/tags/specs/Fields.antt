@@ -35,7 +35,7 @@ headSize = 3
 abbrev pub countSize : ℕ
 countSize = headSize + 2
 
--- what stands behind its tag at the head of a text: a two-byte length, high byte first, then the value
+-- what stands after its tag at the head of a text: a two-byte length, high byte first, then the value
 abbrev pub size : Text → ℕ
 size t = getD t 1 0 * 256 + getD t 2 0
 

@@ -1,3 +1,4 @@
+-- An entry's promise is made of this.
 -- The five separators.
 use Rattle.text.specs.Bytes.{Text, byte}
 use Rattle.text.specs.declared.marks.Marks.{Marks}

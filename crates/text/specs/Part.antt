@@ -1,3 +1,4 @@
+-- An entry's promise is made of this.
 -- The very part of lent bytes: what they are, and where they lie.
 use Prim.Native.Nat.{ℕ, _+_}
 use mathlib.Core.Path.{_≡_}

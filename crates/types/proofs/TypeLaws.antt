@@ -97,7 +97,7 @@ pub begins-at : (p : ℕ → Bool) (t : Text) → (length t ≡ 0 → ⊥) → b
 begins-at p [] h = absurd (h refl)
 begins-at p (b ∷ t) h = refl
 
--- parts of a text, as code takes them: behind the digits, and within the digits
+-- parts of a text, as code takes them: after the digits, and within the digits
 pub part-after-digits : (t : Text) (n : ℕ) → n ≡ length (digits t) → take (length t - n) (drop n t) ≡ rest t
 part-after-digits t n e = part-rest n t ∙ ap (λ k. drop k t) e ∙ digits-drop t
 

@@ -31,7 +31,7 @@ point b = eqb b (byte ".")
 abbrev pub isSI : Text → Bool
 isSI t = every digit t
 
--- what stands behind the point that a text begins with: no bytes where it begins with none
+-- what stands after the point that a text begins with: no bytes where it begins with none
 abbrev pub behindPoint : Text → Text
 behindPoint t = pick (begins point t) (drop 1 t) []
 

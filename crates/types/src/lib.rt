@@ -45,7 +45,7 @@ pub fn is_si(t: &[u8]) -> bool
     digits_len(t) == t.len()
 }
 
-// What stands behind the point that the text begins with: no bytes where it begins with none.
+// What stands after the point that the text begins with: no bytes where it begins with none.
 fn behind_point<'a>(t: &'a [u8]) -> &'a [u8]
     ensures { λ r. ⌜ now r ≡ behindPoint (now (t .entry)) ⌝ }
 {

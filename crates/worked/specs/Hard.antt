@@ -1,3 +1,4 @@
+-- No entry's promise is made of this: it tries the definitions.
 -- Cases that are easy to get wrong: what the definitions give, and what 01 means.
 use Prim.Native.Nat.{ℕ, _^_}
 use Prim.Native.String as string
@@ -81,7 +82,7 @@ looks =
     ∷ (look "MSH" 1 1 2 1 1 says bytes "empty")
     ∷ (look "MSH" 1 2 1 2 1 says bytes "empty")
     ∷ (look "MSH" 1 2 1 1 2 says bytes "empty")
-    -- MSH-3 behind the ninth byte, MSH-9 and not MSH-10, MSH-8 of no bytes
+    -- MSH-3 after the ninth byte, MSH-9 and not MSH-10, MSH-8 of no bytes
     ∷ (look "MSH" 1 3 1 1 1 says bytes "text 9 15")
     ∷ (look "MSH" 1 9 1 2 1 says bytes "text 50 53")
     ∷ (look "MSH" 1 8 1 1 1 says bytes "empty")
@@ -276,7 +277,7 @@ slips =
     ∷ (outcome (file profile01 M 1 1 (replicate 2047 0)) says bytes "refused 17")
     ∷ (outcome (file profile01 M 1 (2 ^ 54) (replicate 2048 0)) says bytes "refused 17")
     ∷ (yesNo (isSlip (replicate 1024 0)) says bytes "no")
-    -- a byte behind the count
+    -- a byte after the count
     ∷ (yesNo (isSlip (take 1023 longestSlip ++ (1 ∷ []))) says bytes "no")
     ∷ []
 

@@ -38,7 +38,7 @@ goes c =
     let at = c .before .before .before .before .before .before in
     let a = at .before .before .args in
     let e = c .before .is-escape in
-    goes-escape (a .q) (a .t .now) (at .loop .i) (search needs) (sym (e .ensures) ∙ not-false (e .result) (c .if2 .left))
+    goes-escape (a .q) (a .t .now) (at .loop .i) (sym (e .ensures) ∙ not-false (e .result) (c .if2 .left))
 
 add-i : tie.Need-add-i Inv-loop μ-loop
 add-i c = let g = goes c in omega arith
