@@ -70,12 +70,13 @@ leafAt q s f r c b = leafOf q (whole s) f r c b .text
 unfoldable pub repetitions : Marks → Text → ℕ → ℕ
 repetitions q s f = pick (empty (field q s f)) 0 (apart q (whole s) f .repetitions)
 
--- THE TEXT at a place of a message, with its start; and its bytes
+-- THE TEXT at a place of a message, with its start
 unfoldable pub standsAt : Text → Place → Located
 standsAt m p =
     leafOf (marksOf m) (occurrenceOf m (p .name) (p .occurrence))
     (p .field) (p .repetition) (p .component) (p .subcomponent)
 
+-- and by its bytes, which are the same (`stands-text`, proofs/Stands.antt)
 unfoldable pub textAt : Text → Place → Text
 textAt m p =
     leafAt (marksOf m) (occurrence m (p .name) (p .occurrence))

@@ -44,17 +44,18 @@ unfoldable pub countFrom : ℕ → ℕ → List ℕ
 countFrom k zero = []
 countFrom k (suc n) = k ∷ countFrom (suc k) n
 
--- the same segments, each with its start
+-- THE SAME SEGMENTS, each with its start
 unfoldable pub locatedSegments : Text → List Located
 locatedSegments m = map (λ i. inside cr i (whole m)) (countFrom 1 (length (segments m)))
 
--- occurrence o of a name, with its start
-abbrev pub number : ℕ → List Located → Located
-number zero ss = nothing
-number (suc i) ss = getD ss i nothing
+-- the one of that number, from 1: nothing where there is none
+abbrev pub nth : ℕ → List Located → Located
+nth zero ss = nothing
+nth (suc i) ss = getD ss i nothing
 
+-- occurrence o of a name, with its start. Its bytes are those of `occurrence` (`occurrence-text`, proofs/Occurrences.antt)
 unfoldable pub occurrenceOf : Text → Text → ℕ → Located
-occurrenceOf m n o = number o (keep (λ (s : Located). named n (s .text)) (locatedSegments m))
+occurrenceOf m n o = nth o (keep (λ (s : Located). named n (s .text)) (locatedSegments m))
 
 abbrev pub isHeader : Text → Bool
 isHeader s = named (bytes "MSH") s
