@@ -20,6 +20,7 @@ use Rattle.frame.proofs.Frame.{framed-tests}
 use Rattle.frame.proofs.Segments.{field-is}
 use Rattle.checks.specs.Place.{Place, leafAt, textAt}
 use Rattle.checks.proofs.Leaf.{leafText, leaf-is}
+use Rattle.checks.proofs.Stands.{text-is}
 
 -- every byte of a text passes a test; of each of some texts
 abbrev pub Each : (ℕ → Bool) → Text → Type 0
@@ -113,10 +114,10 @@ segments-plain m e = last-each printable (split cr m) (split-between printable a
 
 -- THE TEXT AT A PLACE
 pub text-plain : (m : Text) (p : Place) → framed m ≡ true → every printable (textAt m p) ≡ true
-unfolding textAt
 text-plain m p f =
     let ss = ofName (p .name) (segments m) in
-    leaf-each printable (marksOf m) (piece (p .occurrence) ss)
+    rw (text-is m p)
+    (leaf-each printable (marksOf m) (piece (p .occurrence) ss)
     (piece-each printable (p .occurrence) ss
     (all-keep (Each printable) (named (p .name)) (segments m) (segments-plain m (framed-tests m f .bytes-allowed))))
-    (p .field) (p .repetition) (p .component) (p .subcomponent)
+    (p .field) (p .repetition) (p .component) (p .subcomponent))

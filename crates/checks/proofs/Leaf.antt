@@ -50,13 +50,13 @@ pub leaf-one : (q : Marks) (s : Text) (f r c b : ℕ) → unsplit s f ≡ true �
 leaf-one q s f r c b cut = rw (leaf-is q s f r c b, cut)
 
 -- HOW MANY REPETITIONS a field has, and that nothing stands beyond them
-count-step : (w : Bool) (q : Marks) (t : Located) → pick w (oneLeaf t) (splitField q t) .repetitions ≡ pick w 1 (length (split (q .repetition) (t .text)))
+count-step : (w : Bool) (q : Marks) (t : Located) → pick w (oneLeaf t) (splitField q t) .repetitions ≡ pick (empty (t .text)) 0 (pick w 1 (length (split (q .repetition) (t .text))))
 count-step true q t = refl
 count-step false q t = refl
 
 pub count-is : (q : Marks) (s : Text) (f : ℕ) → repetitions q s f ≡ pick (empty (field q s f)) 0 (pick (unsplit s f) 1 (length (split (q .repetition) (field q s f))))
 unfolding repetitions apart
-count-is q s f = ap (pick (empty (field q s f)) 0) (count-step (unsplit s f) q (fieldOf q (whole s) f))
+count-is q s f = count-step (unsplit s f) q (fieldOf q (whole s) f)
 
 none : (h : Bool) → pick {A = Text} h [] [] ≡ []
 none true = refl

@@ -23,7 +23,7 @@ use Rattle.frame.proofs.Segments.{field-header}
 use Rattle.checks.specs.Place.{isPlace, textAt}
 use Rattle.checks.specs.Starts.{leafStart, startAt}
 use Rattle.checks.proofs.Leaf.{leaf-one}
-use Rattle.checks.proofs.Stands.{found-is}
+use Rattle.checks.proofs.Stands.{text-is, found-is}
 use Rattle.checks.specs.LookUp.{found, lookUp}
 use Rattle.checks.specs.Separators.{MSH, IsFirst, Unsplit, otherFour, SeparatorsStand, Separators}
 
@@ -72,14 +72,16 @@ module _ (m t : Text) (ss : List Text) (opening : segments m ≡ (header (marksO
   here = rw opening
 
   first-text : (r c b : ℕ) → textAt m (MSH 1 r c b) ≡ oneLeaf (marksOf m .field ∷ []) r c b
-  unfolding textAt same marksOf
+  unfolding same marksOf
   first-text r c b =
-      rw here (leaf-one (marksOf m) s 1 r c b refl ∙ ap (λ (x : Text). oneLeaf x r c b) (field-header (marksOf m) s 1 refl))
+      text-is m (MSH 1 r c b)
+      ∙ rw here (leaf-one (marksOf m) s 1 r c b refl ∙ ap (λ (x : Text). oneLeaf x r c b) (field-header (marksOf m) s 1 refl))
 
   second-text : (r c b : ℕ) → textAt m (MSH 2 r c b) ≡ oneLeaf (otherFour (marksOf m)) r c b
-  unfolding textAt same marksOf
+  unfolding same marksOf
   second-text r c b =
-      rw here (leaf-one (marksOf m) s 2 r c b refl ∙ ap (λ (x : Text). oneLeaf x r c b) (field-header (marksOf m) s 2 refl))
+      text-is m (MSH 2 r c b)
+      ∙ rw here (leaf-one (marksOf m) s 2 r c b refl ∙ ap (λ (x : Text). oneLeaf x r c b) (field-header (marksOf m) s 2 refl))
 
   first-start : startAt m (MSH 1 1 1 1) ≡ 3
   unfolding startAt leafStart fieldStart ahead keep same marksOf

@@ -42,17 +42,25 @@ leaf-stands q s f r c b =
     (stands-in s (fieldStart q s f) t (pick (unsplit s f) 0 (partStart (inField q r c b) t)) (leafText (unsplit s f) q t r c b)
     (field-stands q s f) (inside-stands (unsplit s f) q t r c b))
 
+-- THE TEXT AT A PLACE, told from its segment's bytes: where the segment starts does not alter it
+pub text-is : (m : Text) (p : Place) → textAt m p ≡ leafAt (marksOf m) (occurrence m (p .name) (p .occurrence)) (p .field) (p .repetition) (p .component) (p .subcomponent)
+unfolding textAt standsAt
+text-is m p =
+    leaf-text (marksOf m) (occurrenceOf m (p .name) (p .occurrence)) (p .field) (p .repetition) (p .component) (p .subcomponent)
+    ∙ ap (λ (s : Text). leafAt (marksOf m) s (p .field) (p .repetition) (p .component) (p .subcomponent)) (occurrence-text m (p .name) (p .occurrence))
+
 -- THE LAW that ties a place's text to its start
 pub text-stands : (m : Text) (p : Place) → Stands m (startAt m p) (textAt m p)
-unfolding textAt startAt
+unfolding startAt
 text-stands m p =
     let s = occurrence m (p .name) (p .occurrence) in
     let q = marksOf m in
-    stands-in m (occurrenceStart m (p .name) (p .occurrence)) s
+    rw (text-is m p)
+    (stands-in m (occurrenceStart m (p .name) (p .occurrence)) s
     (leafStart q s (p .field) (p .repetition) (p .component) (p .subcomponent))
     (leafAt q s (p .field) (p .repetition) (p .component) (p .subcomponent))
     (occurrence-stands m (p .name) (p .occurrence))
-    (leaf-stands q s (p .field) (p .repetition) (p .component) (p .subcomponent))
+    (leaf-stands q s (p .field) (p .repetition) (p .component) (p .subcomponent)))
 
 -- THE START of a leaf that has bytes, as the definition and as the code have it
 one-start : (h : Bool) (t : Located) → empty (pick h (t .text) []) ≡ false → pick h t nothing .start ≡ t .start + 0
@@ -91,27 +99,23 @@ leaf-start q s f r c b e =
     omega (arith, a, k, field-start q s f (field-there w q x r c b h))
 
 -- WHAT IS FOUND at a place: told by the text there, and by its start as the code has it
-pub stands-text : (m : Text) (p : Place) → standsAt m p .text ≡ textAt m p
-unfolding standsAt textAt
-stands-text m p =
-    leaf-text (marksOf m) (occurrenceOf m (p .name) (p .occurrence)) (p .field) (p .repetition) (p .component) (p .subcomponent)
-    ∙ ap (λ (s : Text). leafAt (marksOf m) s (p .field) (p .repetition) (p .component) (p .subcomponent)) (occurrence-text m (p .name) (p .occurrence))
-
 pub stands-start : (m : Text) (p : Place) → empty (textAt m p) ≡ false → standsAt m p .start ≡ startAt m p
-unfolding standsAt textAt startAt
+unfolding standsAt startAt
 stands-start m p e =
     let q = marksOf m in
     let s = occurrence m (p .name) (p .occurrence) in
     let x = occurrenceOf m (p .name) (p .occurrence) in
     let t = occurrence-text m (p .name) (p .occurrence) in
-    let a = leaf-start q x (p .field) (p .repetition) (p .component) (p .subcomponent) (rw t e) in
+    let h : empty (leafAt q s (p .field) (p .repetition) (p .component) (p .subcomponent)) ≡ false = rw (← text-is m p) e in
+    let a = leaf-start q x (p .field) (p .repetition) (p .component) (p .subcomponent) (rw t h) in
     let k : leafStart q (x .text) (p .field) (p .repetition) (p .component) (p .subcomponent) ≡ leafStart q s (p .field) (p .repetition) (p .component) (p .subcomponent) =
     ap (λ (y : Text). leafStart q y (p .field) (p .repetition) (p .component) (p .subcomponent)) t in
-    omega (arith, a, k, occurrence-start m (p .name) (p .occurrence) (segment-there q s (p .field) (p .repetition) (p .component) (p .subcomponent) e))
+    omega (arith, a, k, occurrence-start m (p .name) (p .occurrence) (segment-there q s (p .field) (p .repetition) (p .component) (p .subcomponent) h))
 
 shown-step : (k j : ℕ) (t : Text) → (empty t ≡ false → k ≡ j) → shown k t ≡ shown j t
 shown-step k j [] h = refl
 shown-step k j (b ∷ t) h = rw (h refl)
 
 pub found-is : (m : Text) (p : Place) → found m p ≡ shown (startAt m p) (textAt m p)
-found-is m p = ap (shown (standsAt m p .start)) (stands-text m p) ∙ shown-step (standsAt m p .start) (startAt m p) (textAt m p) (stands-start m p)
+unfolding textAt
+found-is m p = shown-step (standsAt m p .start) (startAt m p) (standsAt m p .text) (unfold textAt in stands-start m p)

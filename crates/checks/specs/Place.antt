@@ -11,7 +11,7 @@ use Rattle.text.specs.Limits.{_to_, isWithin}
 use Rattle.parts.specs.Split.{split, Located, whole, nothing}
 use Rattle.parts.specs.Descent.{part, inField}
 use Rattle.frame.specs.Frame.{mostSegments}
-use Rattle.frame.specs.Segments.{isName, occurrence, occurrenceOf, fieldOf, field, unsplit}
+use Rattle.frame.specs.Segments.{isName, occurrenceOf, fieldOf, unsplit}
 
 pub record Place : Type 0 where
   pub name : Text
@@ -42,18 +42,22 @@ isPlace p =
     && isWithin (1 to mostNumber) (p .component)
     && isWithin (1 to mostNumber) (p .subcomponent)
 
--- A FIELD TAKEN APART: how many repetitions it has, and what stands at a repetition, component and subcomponent of it
+-- A FIELD TAKEN APART: how many repetitions it has, of no bytes none; and what stands at a repetition, component and subcomponent of it
 pub record Apart : Type 0 where
   pub repetitions : ℕ
   pub leaf : ℕ → ℕ → ℕ → Located
 
 -- one leaf, and Empty beyond it
 abbrev pub oneLeaf : Located → Apart
-oneLeaf t = record { repetitions = 1; leaf = λ r c b. pick (eqb r 1 && eqb c 1 && eqb b 1) t nothing }
+oneLeaf t = record { repetitions = pick (empty (t .text)) 0 1; leaf = λ r c b. pick (eqb r 1 && eqb c 1 && eqb b 1) t nothing }
 
--- repetitions, these split into components, these into subcomponents; one repetition more than separators
+-- repetitions, one more than their separators; these are split into components, these into subcomponents
 abbrev pub splitField : Marks → Located → Apart
-splitField q t = record { repetitions = length (split (q .repetition) (t .text)); leaf = λ r c b. part (inField q r c b) t }
+splitField q t =
+    record {
+      repetitions = pick (empty (t .text)) 0 (length (split (q .repetition) (t .text)));
+      leaf = λ r c b. part (inField q r c b) t;
+    }
 
 -- MSH-1 and MSH-2 are one leaf each; every other field is split
 unfoldable pub apart : Marks → Located → ℕ → Apart
@@ -66,9 +70,9 @@ leafOf q s f r c b = apart q s f .leaf r c b
 unfoldable pub leafAt : Marks → Text → ℕ → ℕ → ℕ → ℕ → Text
 leafAt q s f r c b = leafOf q (whole s) f r c b .text
 
--- how many repetitions a field has: of no bytes it has none
+-- how many repetitions a field of a segment has
 unfoldable pub repetitions : Marks → Text → ℕ → ℕ
-repetitions q s f = pick (empty (field q s f)) 0 (apart q (whole s) f .repetitions)
+repetitions q s f = apart q (whole s) f .repetitions
 
 -- THE TEXT at a place of a message, with its start
 unfoldable pub standsAt : Text → Place → Located
@@ -76,8 +80,6 @@ standsAt m p =
     leafOf (marksOf m) (occurrenceOf m (p .name) (p .occurrence))
     (p .field) (p .repetition) (p .component) (p .subcomponent)
 
--- and by its bytes, which are the same (`stands-text`, proofs/Stands.antt)
+-- its bytes
 unfoldable pub textAt : Text → Place → Text
-textAt m p =
-    leafAt (marksOf m) (occurrence m (p .name) (p .occurrence))
-    (p .field) (p .repetition) (p .component) (p .subcomponent)
+textAt m p = standsAt m p .text

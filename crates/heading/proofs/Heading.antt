@@ -16,7 +16,8 @@ use Rattle.profile.specs.Lists.{processing-ids}
 use Rattle.parts.specs.Descent.{inRepetition}
 use Rattle.parts.specs.Span.{partText}
 use Rattle.frame.specs.Segments.{occurrence}
-use Rattle.reader.specs.Place.{textAt}
+use Rattle.reader.specs.Place.{place}
+use Rattle.reader.proofs.Stands.{text-is}
 use Rattle.reader.specs.FromField.{Behind, FieldsFrom, firstRepetition, firstLeaf}
 use Rattle.reader.proofs.Cutting.{third-split, component-leaf, field-leaves, behind-both, fields-behind}
 use Rattle.heading.specs.Header.{headerLeaf, orEmpty, hdOf, copiedHD, processing, replyHeader}
@@ -75,10 +76,9 @@ module _ (q : Marks) (t u w : Text) (later : Behind (q .component) 1 t u) (last 
 -- THE FIELDS of the message's header
 module _ (m : Text) (f : ℕ) (t : Text) (from : HeaderFrom m f t) (l : 3 ≤ f) where
   leaf-there : (c : ℕ) → leafThere (marksOf m) t c ≡ headerLeaf m f c
-  unfolding textAt
   leaf-there c =
       let s = occurrence m (bytes "MSH") 1 in
-      field-leaves (marksOf m) s f t from (third-split s f l) c
+      field-leaves (marksOf m) s f t from (third-split s f l) c ∙ sym (text-is m (place (bytes "MSH") 1 f 1 c 1))
 
   pub leaf-copied : firstLeaf (marksOf m) (firstRepetition (marksOf m) t) ≡ headerLeaf m f 1
   leaf-copied = leaf-there 1

@@ -10,6 +10,7 @@ use Rattle.text.specs.Bytes.{Text}
 use Rattle.text.specs.Marks.{marksOf}
 use Rattle.parts.specs.Split.{piece}
 use Rattle.frame.specs.Segments.{segments, ofName, fewer, occurrence}
+use Rattle.checks.proofs.Stands.{text-is}
 use Rattle.checks.specs.Place.{place, leafAt, textAt}
 use Rattle.reader.specs.declared.standing.Standing.{Standing}
 use Rattle.reader.specs.declared.standing.Standing.the-variants.{Missing, Segment}
@@ -41,5 +42,4 @@ module _ (m n : Text) (o : ℕ) where
   -- THE TEXT that is copied from it is the text at the place
   pub copied-text : (s : Standing) (f c : ℕ) → s ≡ standing m n o
       → leafAt (marksOf m) (segmentText m s) f 1 c 1 ≡ textAt m (place n o f 1 c 1)
-  unfolding textAt
-  copied-text s f c h = rw (standing-bytes s h)
+  copied-text s f c h = rw (standing-bytes s h) (sym (text-is m (place n o f 1 c 1)))
