@@ -1,13 +1,13 @@
 """Rows of boxes one above another with lines between them: an order in which few lines cross, and places at which most run upright.
 
-A stop is a room, told by its name, or a bend (room, height): there a line to that room passes a row.
+A stop is a crate, told by its name, or a bend (crate, height): there a line to that crate passes a row.
 """
 from drawing.sheet import MARGIN, WIDTH
 
 LITTLE = 6
 
 
-def is_room(stop):
+def is_crate(stop):
     return isinstance(stop, str)
 
 
@@ -105,12 +105,12 @@ def spread(wanted, strengths, gaps, left, right):
 
 def gap(one, other, wide):
     """How far apart the middles of two that stand side by side must be."""
-    return {2: wide + 22, 1: wide // 2 + 16, 0: 18}[is_room(one) + is_room(other)]
+    return {2: wide + 22, 1: wide // 2 + 16, 0: 18}[is_crate(one) + is_crate(other)]
 
 
 def drawn(stop, near, at, is_late):
     """Where a stop's neighbours draw it, and how strongly; late turns heed the near ones most, so that a line runs upright and bends once."""
-    pulls = [(at[other], (1, 3, 12)[2 - is_room(stop) - is_room(other)]) for other in near] or [(at[stop], 1)]
+    pulls = [(at[other], (1, 3, 12)[2 - is_crate(stop) - is_crate(other)]) for other in near] or [(at[stop], 1)]
     pulls = [(place, strength / max(1, abs(place - at[stop])) if is_late else strength) for place, strength in pulls]
     whole = total(strength for _, strength in pulls)
     return total(place * strength for place, strength in pulls) / whole, whole
@@ -134,10 +134,10 @@ def leeway(stop, row, at, wide):
 
 
 def straightened(at, rows, wide):
-    """The bends of the lines to one room stand one above another, in as many rows as can be."""
-    for room in {stop[0]: True for row in rows for stop in row if not is_room(stop)}:
-        bends = {stop: leeway(stop, row, at, wide) for row in rows for stop in row if not is_room(stop) and stop[0] == room}
-        fits = {place: [stop for stop, (left, right) in bends.items() if left <= place <= right] for place in (at[room], *(at[stop] for stop in bends))}
+    """The bends of the lines to one crate stand one above another, in as many rows as can be."""
+    for crate in {stop[0]: True for row in rows for stop in row if not is_crate(stop)}:
+        bends = {stop: leeway(stop, row, at, wide) for row in rows for stop in row if not is_crate(stop) and stop[0] == crate}
+        fits = {place: [stop for stop, (left, right) in bends.items() if left <= place <= right] for place in (at[crate], *(at[stop] for stop in bends))}
         best = max(fits, key=lambda place: len(fits[place]))
         at.update({stop: best for stop in fits[best]})
     return at
@@ -158,7 +158,7 @@ def placed(rows, up, down, wide, turns=2400):
 
 
 def ports(stop, near, at, wide):
-    """Where the lines to the neighbours leave a stop: side by side at a room, all from one point at a bend."""
+    """Where the lines to the neighbours leave a stop: side by side at a crate, all from one point at a bend."""
     near = sorted(near, key=lambda other: at[other])
-    step = min(13, (wide - 22) / max(1, len(near) - 1)) if is_room(stop) else 0
+    step = min(13, (wide - 22) / max(1, len(near) - 1)) if is_crate(stop) else 0
     return {other: at[stop] + (k - (len(near) - 1) / 2) * step for k, other in enumerate(near)}

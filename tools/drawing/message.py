@@ -6,6 +6,10 @@ DEPTHS = ("field", "repetition", "component", "subcomponent")
 MARKS, STRIKING = "crates/text/specs/Marks.antt", "crates/striking/specs/Striking.antt"
 
 
+def ordinal(n):
+    return f"{n}{ {1: 'st', 2: 'nd', 3: 'rd'}.get(n, 'th') }"
+
+
 def separators():
     """The five by their names, in the order in which a header has them."""
     told = dict(found(r'(\w+) = byte "\\?(.)"', MARKS, "the separators"))
@@ -82,13 +86,13 @@ def draw_first_nine(sheet, y):
     names = ["", "", "", *marks, "field, again"]
     for k, name in enumerate(names):
         x = MARGIN + cell * k
-        sheet.words(x + cell / 2, y + 24, f"byte {k + 1}", 11, PALE, at="middle")
+        sheet.words(x + cell / 2, y + 24, f"{ordinal(k + 1)} byte", 11, PALE, at="middle")
         sheet.box(x, y + 30, cell, 30, fill=BLUE if name else GREY)
         sheet.code(x + cell / 2, y + 51, header[k], 18, at="middle", font_weight="bold")
         sheet.words(x + cell / 2, y + 75, name, 11, at="middle")
     x = MARGIN + cell * len(names)
     third = header[len(names) :].split(marks["field"])[0]
-    sheet.words(x + 8, y + 24, f"byte {len(names) + 1} on", 11, PALE)
+    sheet.words(x + 8, y + 24, f"from the {ordinal(len(names) + 1)} on", 11, PALE)
     sheet.code(x + 8, y + 51, third, 18)
     for first, last, label in ((0, 3, "the name"), (3, 4, "MSH-1"), (4, 8, "MSH-2, unsplit")):
         draw_bracket(sheet, MARGIN + cell * first, MARGIN + cell * last, y + 84, label)

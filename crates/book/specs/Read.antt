@@ -13,7 +13,7 @@ use Rattle.tags.specs.Fields.{countTag, headSize, Expected, size, hasTag, field
 unfoldable pub use Rattle.tags.specs.Fields.{isSlipFrom}
 use Rattle.slip.specs.Slot.{slotSize, slotStart, noSlot}
 
--- the five in their order
+-- the five fields of text, in their order
 abbrev pub expected : List Expected
 expected = map fieldOf (1 ∷ 2 ∷ 3 ∷ 4 ∷ 5 ∷ [])
 

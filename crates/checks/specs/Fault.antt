@@ -29,7 +29,8 @@ abbrev pub listChecks : Place → Codes → Text → List Check
 listChecks p any t = []
 listChecks p (only codes n) t = check p n (not (empty t) && not (isOne t codes)) ∷ []
 
--- A LEAF'S OWN RULE: Empty passes unless it is starred; else too long, bad escape, not of its type, not in its list
+-- A LEAF'S OWN RULE: Empty passes unless it is starred; else too long, bad escape, not of its type, not in its list. (No bytes are never too long, and have no
+-- bad escape)
 abbrev pub leafChecks : Marks → Place → Leaf → Text → List Check
 leafChecks q p l t =
     check p 3 (empty t && l .star)

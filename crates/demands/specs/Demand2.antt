@@ -3,7 +3,7 @@
 -- its first fault, with place and reason; that replies and slips have exactly the bytes that 01 lays down; and that a slip read back
 -- gives the values filed.
 --
--- The checks of a message, in the order of 01's walk, are `checks` (reader); the bytes of a reply are `replyText` (reply), those of a slip
+-- The checks of a message, in the order of 01's walk, are `checks` (checks/specs/Fault.antt); the bytes of a reply are `replyText` (reply), those of a slip
 -- `slipText` (slip). Here stands what the entries' promises say of them.
 use mathlib.Core.Path.{_≡_}
 use Prim.Native.Nat.{ℕ, _+_, _≤_}

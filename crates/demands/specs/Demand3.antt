@@ -30,24 +30,24 @@ use Rattle.profile.specs.Fit.{fit, hasCopies}
 use Rattle.striking.specs.Striking.{NotEmpty}
 
 -- a look-up's answer by its bytes, since striking moves the starts
-pub data Shown : Type 0 where
-  Empty : Shown
-  Bytes : Text → Shown
+pub data ByBytes : Type 0 where
+  Empty : ByBytes
+  Bytes : Text → ByBytes
 
--- shown so: what the definition finds, and what the entry hands back
-abbrev pub shownFound : Text → Found → Shown
+-- so: what the definition finds, and what the entry hands back
+abbrev pub shownFound : Text → Found → ByBytes
 shownFound m Found.Empty = Empty
 shownFound m (Text-from-to a e) = Bytes (within a e m)
 
-abbrev pub lookUpShown : Text → Place → Answer Shown
+abbrev pub lookUpShown : Text → Place → Answer ByBytes
 lookUpShown m p = tell (shownFound m) (lookUp m p)
 
-abbrev pub shownBy : code-found.Found → Text → Answer Shown
+abbrev pub shownBy : code-found.Found → Text → Answer ByBytes
 shownBy (code-found.the-variants.Refused r) t = refused r
 shownBy code-found.the-variants.Empty t = given Empty
 shownBy (code-found.the-variants.Text a e) t = given (Bytes t)
 
-abbrev pub handedShown : LookedUp → Answer Shown
+abbrev pub handedShown : LookedUp → Answer ByBytes
 handedShown r = shownBy (r .sort) (r .text .now)
 
 -- THE SAME ANSWERS: what a call gives for the message as it came is what is promised for the struck one, and the two calls give and leave the same

@@ -1,5 +1,5 @@
 -- An entry's promise is made of this.
--- What the calls that write into a lent buffer promise.
+-- What resolving promises.
 use mathlib.Core.Path.{_≡_}
 use lib.ListN.{length}
 use Rattle.text.specs.Bytes.{Text}

@@ -87,7 +87,7 @@ mayFollow T last n = some (λ (s : Succession). same (s .segment) last && isOne 
 abbrev pub mayEnd : Table → Text → Bool
 mayEnd T last = isOne last (T .ends)
 
--- a listed field: what its rows say, the first of them of usage and repetitions
+-- a listed field: what its rows list; its usage and repetitions are those of its first row
 pub record Rule : Type 0 where
   pub field : ℕ
   pub usage : Usage

@@ -20,7 +20,7 @@ use Rattle.reader.proofs.Leaf.{count-is, leaf-beyond}
 use Rattle.reader.specs.Place.{leafAt, repetitions}
 use Rattle.reader.specs.View.{Entry, Field, entriesAt, isFilled, filledUpTo, namedIn, fieldSeen, segmentSeen}
 use Rattle.striking.specs.Strike.{hasLeaf, rowsAt, hasField, fieldLeaves, strikeField, strikeSegment}
-use Rattle.profile.specs.Fit.{listsComponent, hasRow, namerListed, mayRepeat, rowFit, fit}
+use Rattle.profile.specs.Fit.{listsComponent, hasRow, namerListed, allowsOne, rowFit, fit}
 use Rattle.striking.proofs.Shrink.{count-rewritten, rewritten-empty}
 use Rattle.striking.proofs.Kept.{unless, strikeIn, in-shrinks, name-struck, field-struck, unsplit-struck, leaf-struck}
 
@@ -101,7 +101,7 @@ module _ (T : Table) (q : Marks) (s : Text) where
 
   row-ok : (r : Row) → (Fit r × Member (T .rows) r) × (same (r .segment) (name s) ≡ true) → RowOk Lists Says r
   row-ok r h =
-      let w = both (mayRepeat r) (namerListed T (r .segment) (r .lists)) (h .0 .0) in
+      let w = both (allowsOne r) (namerListed T (r .segment) (r .lists)) (h .0 .0) in
       let e = h .1 in (
         (
           same-leaves (r .lists) (rw (same-true (r .segment) (name s) e) at (w .1)),

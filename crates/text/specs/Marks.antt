@@ -3,7 +3,7 @@
 use Rattle.text.specs.Bytes.{Text, byte}
 use Rattle.text.specs.declared.marks.Marks.{Marks}
 
--- those that our own replies are written with
+-- those that our own replies are written with, and that a text to resolve is read by
 abbrev pub usual : Marks
 usual =
     record {
