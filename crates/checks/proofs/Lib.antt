@@ -3,4 +3,3 @@ pub mod Stands
 pub mod Filled
 pub mod Cases
 pub mod Separators
-pub mod Same
