@@ -17,7 +17,7 @@
  *   - What a call may write (`out`, `buffer`, `book`) shares no byte with anything else that is handed to the same call, and nobody
  *     else reads or writes it during the call. What is only read may overlap, and may be shared between threads.
  *   - The arrays of uint64_t are aligned as usual, to eight bytes. Bytes need no alignment.
- *   - There are 128 KiB of stack left (79,288 bytes are the most that bench/stack measured, of a message with 512 segments).
+ *   - There are 128 KiB of stack left (docs/SPEED.md has what was counted).
  *
  * No call keeps a pointer, allocates, has a state of its own or does input or output, so calls from several threads are independent.
  */
@@ -65,7 +65,7 @@ enum ithwyral_refusal {
 /* Where the numbers stand in `out` of ithwyral_judge. */
 enum {
     ITHWYRAL_REASON = 0,    /* 0: accepted; 1 to 12: why not */
-    ITHWYRAL_CONDITION = 1, /* the condition code, 100 to 103 or 200 to 203 */
+    ITHWYRAL_CONDITION = 1, /* the reason's condition code, 100 to 103 or 200 to 203; 0: there is no reason */
     ITHWYRAL_NAME = 2,      /* three numbers, each a byte of the segment's name */
     ITHWYRAL_OCCURRENCE = 5,
     ITHWYRAL_FIELD = 6,

@@ -5,7 +5,7 @@
  *     guarded front < CALLS
  *
  * Reads calls as lines and prints their answers as lines (docs/CALLS.md). With `back` each slice and each array that is lent ends directly
- * before an unreadable page, with guard bytes in front of it; with `front` it begins directly behind an unreadable page, and the guard
+ * before an unreadable page, with guard bytes in front of it; with `front` it begins directly after an unreadable page, and the guard
  * bytes follow.
  * What is only to be read cannot be written during the call. So a byte that is read or written outside of what was lent stops the
  * program or changes a guard byte, and either is told on standard error, with exit status 1; so is a refusal that changes `out`.
@@ -56,7 +56,7 @@ static void catch_traps(void)
 /* ---- memory between unreadable pages */
 
 struct region {
-    uint8_t *pages; /* readable; the page before and the page behind are not */
+    uint8_t *pages; /* readable; the page before and the page after are not */
     size_t pages_size;
     uint8_t *lent;
     size_t size;
@@ -103,7 +103,7 @@ static void take_back(struct region *r)
     const uint8_t *guard = guard_of(r);
     for (size_t i = 0; i < GUARD; i++)
         if (guard[i] != GUARD_BYTE)
-            fail(is_front ? "a byte behind what was lent has changed" : "a byte before what was lent has changed");
+            fail(is_front ? "a byte after what was lent has changed" : "a byte before what was lent has changed");
     if (r->only_read && mprotect(r->pages, r->pages_size, PROT_READ | PROT_WRITE) != 0)
         fail("mprotect");
 }
@@ -111,7 +111,7 @@ static void take_back(struct region *r)
 /* ---- reading a line */
 
 struct call {
-    const uint8_t *at; /* the next word; behind the end where there is none */
+    const uint8_t *at; /* the next word; after the end where there is none */
     const uint8_t *end;
     uint8_t *strings[STRINGS];
     size_t sizes[STRINGS];
@@ -137,18 +137,17 @@ static const uint8_t *word_end(const uint8_t *at, uint8_t stop)
     return at;
 }
 
+/* A number in any number of digits; one that does not fit is read as the largest. */
 static bool read_number(const uint8_t *at, const uint8_t *end, uint64_t *value)
 {
     *value = 0;
-    if (at >= end || end - at > 20)
+    if (at >= end)
         return false;
     for (; at < end; at++) {
         if (*at < '0' || *at > '9')
             return false;
         uint64_t digit = *at - (uint64_t)'0';
-        if (*value > (UINT64_MAX - digit) / 10)
-            return false;
-        *value = *value * 10 + digit;
+        *value = *value > (UINT64_MAX - digit) / 10 ? UINT64_MAX : *value * 10 + digit;
     }
     return true;
 }
@@ -188,7 +187,7 @@ static bool read_string(const uint8_t *at, const uint8_t *end, uint8_t *into, si
     return true;
 }
 
-/* Reads the words behind the call's name: s a string, n a number. Whether the line has just these. */
+/* Reads the words after the call's name: s a string, n a number. Whether the line has just these. */
 static bool read_words(const char *form)
 {
     size_t strings = 0, numbers = 0;

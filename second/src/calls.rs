@@ -16,8 +16,6 @@ pub const MOST_STRING_BYTES: usize = 131_072;
 pub const MOST_LINE_BYTES: usize = 1_048_576;
 /// Runs of at least this many equal bytes are printed in the short form.
 const LEAST_RUN: usize = 8;
-/// The digits of the longest number.
-const MOST_DIGITS: usize = 20;
 /// The words of the longest call.
 const MOST_WORDS: usize = 8;
 
@@ -81,13 +79,13 @@ fn asked(words: &[&[u8]]) -> Option<Asked> {
     }
 }
 
-/// A number in 1 to 20 decimal digits that fits in 64 bits.
+/// A number in decimal digits, any number of them; one that does not fit in 64 bits is asked as the largest.
 fn number(word: &[u8]) -> Option<u64> {
-    // `parse` would take a plus sign as well, and any number of zeros in front.
-    if word.len() > MOST_DIGITS || !word.iter().all(u8::is_ascii_digit) {
+    // `parse` would take a plus sign as well.
+    if word.is_empty() || !word.iter().all(u8::is_ascii_digit) {
         return None;
     }
-    std::str::from_utf8(word).ok()?.parse().ok()
+    Some(std::str::from_utf8(word).ok()?.parse().unwrap_or(u64::MAX))
 }
 
 fn write_answer(call: Call, out: &mut Vec<u8>) -> io::Result<()> {

@@ -129,7 +129,7 @@ impl<'m> Fields<'m> {
         FieldWalk::new(self.rest)
     }
 
-    /// Goes on behind a field that was walked to its end.
+    /// Goes on after a field that was walked to its end.
     pub fn leave(&mut self, walk: &FieldWalk<'m>) {
         self.rest = walk.rest;
         self.number += 1;

@@ -93,7 +93,7 @@ impl<'m> Group<'m> {
 }
 
 /// Puts tag and length, from `start` on, before a value that is written
-/// already; the next tag comes behind it.
+/// already; the next tag comes after it.
 fn close(slip: &mut [u8], start: usize, tag: u8, length: usize) -> usize {
     let [high, low] = (length as u16).to_be_bytes();
     slip[start..start + HEAD_BYTES].copy_from_slice(&[tag, high, low]);

@@ -39,7 +39,8 @@ fn unspelling() {
     assert_eq!(unspell(b"=a*0;b*3;"), Some(b"abbbb".to_vec()));
     assert_eq!(unspell(b"=b*2;*1;"), None);
     assert_eq!(unspell(b"=b*00000000000000000002;"), Some(b"bbb".to_vec()));
-    assert_eq!(unspell(b"=b*000000000000000000002;"), None);
+    assert_eq!(unspell(b"=b*000000000000000000002;"), Some(b"bbb".to_vec()));
+    assert_eq!(unspell(b"=b*18446744073709551616;"), None);
     assert_eq!(unspell(b"=%2A*003;"), Some(b"****".to_vec()));
     assert_eq!(unspell(b"=;"), Some(b";".to_vec()));
     assert_eq!(
@@ -151,7 +152,6 @@ fn no_calls() {
         "look = MSH 1 1 1 1 1",
         "look = = 1 1 1 1 -1",
         "look = = 1 1 1 1 +1",
-        "read = 18446744073709551616 1",
         "read = 1",
         "read = = 1",
         "file = 1 =",
@@ -165,7 +165,10 @@ fn no_calls() {
     ] {
         assert_eq!(answer(bad), "no call", "{:?}", bad);
     }
-    assert_eq!(answer("read = 18446744073709551615 1"), "refused 17");
+    // a number that does not fit is asked as the largest
+    for large in ["18446744073709551615", "18446744073709551616", "100000000000000000000000"] {
+        assert_eq!(answer(&format!("read = {} 1", large)), "refused 17");
+    }
 }
 
 #[test]

@@ -98,7 +98,7 @@ fn segments() {
 fn second_header() {
     assert_eq!(refused(&message(&[HEADER, HEADER])), Some(7));
     assert_eq!(refused(&message(&[HEADER, "PID", "MSH"])), Some(7));
-    // A bad segment comes first, even behind the second header.
+    // A bad segment comes first, even after the second header.
     assert_eq!(refused(&message(&[HEADER, "MSH", "bad"])), Some(6));
     assert_eq!(refused(&message(&[HEADER, "MSHX"])), Some(6));
 }

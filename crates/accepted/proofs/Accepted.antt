@@ -12,7 +12,8 @@ use Rattle.text.proofs.Answer.{first-given, given-passes, first-asked}
 use Rattle.frame.specs.Frame.{frameTests, framed}
 use Rattle.profile.specs.Table.{Table}
 use Rattle.checks.specs.Place.{Place}
-use Rattle.checks.specs.Fault.{Check, isBroken, noneBroken, FirstBroken, checks, Verdict, accepted, fault, firstBroken, verdict, judge}
+use Rattle.checks.specs.Fault.{Check, checks, Verdict, accepted, fault, firstBroken, verdict, judge}
+use Rattle.checks.specs.First.{isBroken, noneBroken, FirstBroken}
 
 none-step : (b r : Bool) (p : Place) (n : ℕ) (v : Verdict) → (v ≡ accepted → r ≡ true) → pick b (fault p n) v ≡ accepted → not b && r ≡ true
 none-step true r p n v h e = absurd (let z : _≡_ {A = ℕ} 0 1 = cc in omega arith)

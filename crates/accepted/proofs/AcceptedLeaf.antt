@@ -1,42 +1,49 @@
 -- In an accepted message each listed leaf of each listed segment keeps its rule, and a required field has the leaves that it must have.
 use mathlib.Core.Path.{_≡_, refl, sym, ap, subst, _∙_}
-use Prim.Native.Nat.{ℕ, suc, _≤_}
+use Prim.Native.Nat.{ℕ, zero, suc, _+_, _≤_, _<_}
 use native.Mathlib.Omega.{arith}
 use mathlib.Core.Bool.{Bool, true, false, not, _&&_}
 use mathlib.Core.List.{List, [], _∷_, map, flatMap}
 use lib.ListN.{length}
+use lib.Dec.{ltb}
 use borrow.Author.Tests as tests
-use borrow.Author.Tests.{le-ltb, ltb-false}
-use Rattle.text.specs.Bytes.{Text, pick, empty, some}
+use borrow.Author.Tests.{le-ltb, ltb-true, ltb-false}
+use Rattle.text.specs.Bytes.{Text, pick, empty, some, isOne}
 use Rattle.text.specs.declared.marks.Marks.{Marks}
 use Rattle.text.specs.Marks.{marksOf}
-use Rattle.escape.specs.Escape.{badEscape, endsOutside}
+use Rattle.escape.specs.Escape.{badEscape}
 use Rattle.text.specs.Limits.{tooLong}
 use Rattle.text.proofs.Tests.{not-true, same-true}
 use Rattle.text.proofs.Lists.{All, all-map, all-both, all-keep, all-kept, every-all, some-mono, or-none}
-use Rattle.parts.specs.Split.{split, piece}
-use Rattle.parts.specs.Descent.{Step, cut, part, inRepetition}
-use Rattle.frame.specs.Segments.{segments, name, named, ofName, occurrence, fewer, field, unsplit}
-use Rattle.profile.specs.Table.{Table, Leaf, Rule, Usage, R, ofType, among, isListed, rulesOf, leavesOf}
-use Rattle.checks.specs.Place.{place, leafAt, leafIn, repetitions}
-use Rattle.checks.specs.View.{Entry, Repetition, Field, Segment, entriesOf, isFilled, filledFrom, namedIn, fieldSeen, segmentSeen, listedSegments, view}
-use Rattle.checks.specs.Fault.{Check, leafChecks, repetitionChecks, startsFilled, firstFilled, isRequired, fieldChecks, count, walk, checks, accepted, verdict}
-use Rattle.parts.proofs.Members.{append-all, keep-step, keep-all, some-map, map-all, flatMap-all, piece-all, member-all, no-piece}
-use Rattle.parts.proofs.Descent.{piece-nil}
-use Rattle.checks.proofs.Filled.{late-none}
+use Rattle.frame.specs.Segments.{segments, name, named, ofName, occurrence, fewer}
+use Rattle.profile.specs.Table.{Table, Codes, any, only, Leaf, Rule, Usage, R, ofType, isListed, rulesOf, leavesOf}
+use Rattle.checks.specs.Place.{Place, place, leafAt, repetitions}
+use Rattle.checks.specs.View.{Entry, Repetition, Field, Segment, entriesAt, isFilled, filledUpTo, namedIn, fieldSeen, segmentSeen, listedSegments, view}
+use Rattle.checks.specs.Fault.{Check, listChecks, leafChecks, repetitionChecks, startsFilled, firstFilled, isRequired, fieldChecks, count, walk, checks, accepted, verdict}
+use Rattle.parts.proofs.Members.{append-all, keep-step, keep-all, some-map, map-all, flatMap-all, member-all}
+use Rattle.checks.proofs.Leaf.{leaf-nought, leaf-beyond}
+use Rattle.checks.proofs.Filled.{late-numbers}
+use Rattle.escape.proofs.Escapes.{bad-none}
 use Rattle.accepted.proofs.Accepted.{accepted-none}
 
 -- 1. A leaf's rule
+abbrev InList : Codes → Text → Type 0
+InList any t = Unit
+InList (only codes n) t = not (empty t) && not (isOne t codes) ≡ false
+
 pub record Kept (q : Marks) (l : Leaf) (t : Text) : Type 0 where
   pub short : tooLong (l .limit) t ≡ false
   pub good : badEscape q t ≡ false
   pub typed : not (empty t) && not (ofType (l .type) t) ≡ false
-  pub coded : not (empty t) && not (among (l .list) t) ≡ false
+  pub coded : InList (l .list) t
 
 -- Empty keeps it
+empty-in : (c : Codes) → InList c []
+empty-in any = tt
+empty-in (only codes n) = refl
+
 empty-kept : (q : Marks) (l : Leaf) (t : Text) → empty t ≡ true → Kept q l t
-unfolding endsOutside
-empty-kept q l [] e = record { short = le-ltb (l .limit) 0 (omega arith); good = refl; typed = refl; coded = refl }
+empty-kept q l [] e = record { short = le-ltb (l .limit) 0 (omega arith); good = bad-none q; typed = refl; coded = empty-in (l .list) }
 empty-kept q l (b ∷ t) e = not-true e
 
 -- in a filled repetition a starred one is not Empty
@@ -46,9 +53,13 @@ Judged q l t = Kept q l t × (empty t && l .star ≡ false)
 abbrev Fine : Check → Type 0
 Fine c = c .broken ≡ false
 
+list-judged : (p : Place) (c : Codes) (t : Text) → All Fine (listChecks p c t) → InList c t
+list-judged p any t a = tt
+list-judged p (only codes n) t a = a .0
+
 leaf-judged : (q : Marks) (n : Text) (o f k : ℕ) (e : Entry)
     → All Fine (leafChecks q (place n o f k (e .leaf .component) (e .leaf .subcomponent)) (e .leaf) (e .text)) → Judged q (e .leaf) (e .text)
-leaf-judged q n o f k e a = (record { short = a .1 .0; good = a .1 .1 .0; typed = a .1 .1 .1 .0; coded = a .1 .1 .1 .1 .0 }, a .0)
+leaf-judged q n o f k e a = (record { short = a .1 .0; good = a .1 .1 .0; typed = a .1 .1 .1 .0; coded = list-judged (place n o f k (e .leaf .component) (e .leaf .subcomponent)) (e .leaf .list) (e .text) (a .1 .1 .1 .1) }, a .0)
 
 abbrev EntriesJudged : Marks → List Entry → Type 0
 EntriesJudged q es = All (λ (e : Entry). Judged q (e .leaf) (e .text)) es
@@ -108,17 +119,20 @@ segments-judged T m ok =
     (walk-judged T q [] [] (view T m) fine)))
 
 -- 3. The repetitions of a field
-module _ (q : Marks) (read : Text → List Entry) where
-  abbrev FilledJudged : Text → Type 0
-  FilledJudged t = isFilled (read t) ≡ true → EntriesJudged q (read t)
+module _ (q : Marks) (read : ℕ → List Entry) where
+  abbrev FilledJudged : ℕ → Type 0
+  FilledJudged r = isFilled (read r) ≡ true → EntriesJudged q (read r)
 
-  filled-judged : (k : ℕ) (ts : List Text) → All (λ (r : Repetition). EntriesJudged q (r .entries)) (filledFrom k read ts) → All FilledJudged ts
-  unfolding filledFrom
-  filled-judged k [] a = tt
-  filled-judged k (t ∷ ts) a =
-      let h = keep-step (λ (r : Repetition). EntriesJudged q (r .entries)) (record { number = k; entries = read t })
-      (filledFrom (suc k) read ts) (isFilled (read t)) a in
-      (h .0, filled-judged (suc k) ts (h .1))
+  filled-judged : (k n : ℕ) → All (λ (r : Repetition). EntriesJudged q (r .entries)) (filledUpTo read k n) → (i : ℕ) → i < n → FilledJudged (k + i)
+  unfolding filledUpTo
+  filled-judged k zero a i l = absurd (omega arith)
+  filled-judged k (suc n) a zero l =
+      let e : k + 0 ≡ k = omega arith in
+      rw e (keep-step (λ (x : Repetition). EntriesJudged q (x .entries)) (record { number = k; entries = read k }) (filledUpTo read (suc k) n) (isFilled (read k)) a .0)
+  filled-judged k (suc n) a (suc i) l =
+      let e : k + suc i ≡ suc k + i = omega arith in
+      let rest = keep-step (λ (x : Repetition). EntriesJudged q (x .entries)) (record { number = k; entries = read k }) (filledUpTo read (suc k) n) (isFilled (read k)) a .1 in
+      rw e (filled-judged (suc k) n rest i (omega arith))
 
   -- the first one is filled where one of those filled is number 1
   first-step : (es : List Entry) (rs : List Repetition) (b : Bool) → startsFilled rs ≡ false
@@ -126,59 +140,40 @@ module _ (q : Marks) (read : Text → List Entry) where
   first-step es rs true none e = refl
   first-step es rs false none e = sym none ∙ e
 
-  first-judged : (ts : List Text) → All FilledJudged ts → startsFilled (filledFrom 1 read ts) ≡ true
-      → (isFilled (read (piece 1 ts)) ≡ true) × EntriesJudged q (read (piece 1 ts))
-  unfolding filledFrom some
-  first-judged [] a e = not-true e
-  first-judged (t ∷ ts) a e =
-      let h = first-step (read t) (filledFrom 2 read ts) (isFilled (read t)) (late-none 2 read ts (omega arith)) e in
-      (h, a .0 h)
+  first-filled : (n : ℕ) → startsFilled (filledUpTo read 1 n) ≡ true → (isFilled (read 1) ≡ true) × (0 < n)
+  unfolding filledUpTo some
+  first-filled zero e = not-true e
+  first-filled (suc n) e =
+      (first-step (read 1) (filledUpTo read 2 n) (isFilled (read 1)) (late-numbers 2 n read (omega arith)) e, omega arith)
 
 -- 4. The leaves of a repetition
-module _ (q : Marks) (whole : Bool) where
-  abbrev LeafKept : Text → Leaf → Type 0
-  LeafKept t l = Kept q l (leafIn q whole t (l .component) (l .subcomponent))
+module _ (q : Marks) (s : Text) (f r : ℕ) where
+  abbrev textOf : Leaf → Text
+  textOf l = leafAt q s f r (l .component) (l .subcomponent)
 
-  none-kept : (t : Text) (ls : List Leaf) → isFilled (entriesOf q whole ls t) ≡ false → All (LeafKept t) ls
+  abbrev LeafKept : Leaf → Type 0
+  LeafKept l = Kept q l (textOf l)
+
+  none-kept : (ls : List Leaf) → isFilled (entriesAt q s f ls r) ≡ false → All LeafKept ls
   unfolding some
-  none-kept t [] e = tt
-  none-kept t (l ∷ ls) e =
-      let x = leafIn q whole t (l .component) (l .subcomponent) in
-      let h = or-none (not (empty x)) (isFilled (entriesOf q whole ls t)) e in
-      (empty-kept q l x (tests.not-false (empty x) (h .0)), none-kept t ls (h .1))
+  none-kept [] e = tt
+  none-kept (l ∷ ls) e =
+      let x = textOf l in
+      let h = or-none (not (empty x)) (isFilled (entriesAt q s f ls r)) e in
+      (empty-kept q l x (tests.not-false (empty x) (h .0)), none-kept ls (h .1))
 
-  entries-all : (t : Text) (ls : List Leaf) → EntriesJudged q (entriesOf q whole ls t)
-      → All (λ (l : Leaf). Judged q l (leafIn q whole t (l .component) (l .subcomponent))) ls
-  entries-all t ls a =
-      map-all (λ (e : Entry). Judged q (e .leaf) (e .text))
-      (λ (l : Leaf). record { leaf = l; text = leafIn q whole t (l .component) (l .subcomponent) }) ls a
+  entries-all : (ls : List Leaf) → EntriesJudged q (entriesAt q s f ls r) → All (λ (l : Leaf). Judged q l (textOf l)) ls
+  entries-all ls a =
+      map-all (λ (e : Entry). Judged q (e .leaf) (e .text)) (λ (l : Leaf). record { leaf = l; text = textOf l }) ls a
 
-  leaves-kept : (t : Text) (ls : List Leaf) (b : Bool) → isFilled (entriesOf q whole ls t) ≡ b → (b ≡ true → EntriesJudged q (entriesOf q whole ls t))
-      → All (LeafKept t) ls
-  leaves-kept t ls true e a =
-      all-map (λ (l : Leaf). Judged q l (leafIn q whole t (l .component) (l .subcomponent))) (LeafKept t) (λ l k. k .0) ls (entries-all t ls (a refl))
-  leaves-kept t ls false e a = none-kept t ls e
+  leaves-kept : (ls : List Leaf) (b : Bool) → isFilled (entriesAt q s f ls r) ≡ b → (b ≡ true → EntriesJudged q (entriesAt q s f ls r)) → All LeafKept ls
+  leaves-kept ls true e a = all-map (λ (l : Leaf). Judged q l (textOf l)) LeafKept (λ l k. k .0) ls (entries-all ls (a refl))
+  leaves-kept ls false e a = none-kept ls e
 
-  -- nothing stands in no bytes
-  cut-nil : (sep r : ℕ) (w : Bool) → piece r (cut w sep []) ≡ []
-  unfolding split
-  cut-nil sep r true = piece-nil sep r
-  cut-nil sep r false = piece-nil sep r
-
-  part-empty : (ss : List Step) → part whole ss [] ≡ []
-  unfolding part
-  part-empty [] = refl
-  part-empty (s ∷ ss) = rw (cut-nil (s .mark) (s .number) whole) (part-empty ss)
-
-  nil-kept : (ls : List Leaf) → All (LeafKept []) ls
-  nil-kept [] = tt
-  nil-kept (l ∷ ls) =
-      (empty-kept q l (leafIn q whole [] (l .component) (l .subcomponent)) (rw (part-empty (inRepetition q (l .component) (l .subcomponent)))), nil-kept ls)
-
-  -- the pieces of a field of no bytes, and of any other
-  pieces-same : (x : Text) (r : ℕ) → piece r (cut whole (q .repetition) x) ≡ piece r (pick (empty x) [] (cut whole (q .repetition) x))
-  pieces-same [] r = cut-nil (q .repetition) r whole ∙ sym (no-piece r)
-  pieces-same (b ∷ x) r = refl
+  -- where nothing stands
+  nothing-kept : (ls : List Leaf) → ((c b : ℕ) → leafAt q s f r c b ≡ []) → All LeafKept ls
+  nothing-kept [] h = tt
+  nothing-kept (l ∷ ls) h = (empty-kept q l (textOf l) (rw (h (l .component) (l .subcomponent))), nothing-kept ls h)
 
 -- 5. The leaves of a field
 starred-some : (b c : Bool) → b && c ≡ false → c ≡ true → b ≡ false
@@ -203,55 +198,45 @@ module _ (T : Table) (q : Marks) (s : Text) (u : Rule) where
   abbrev f : ℕ
   f = u .field
 
-  abbrev whole : Bool
-  whole = unsplit s f
-
   abbrev ls : List Leaf
   ls = leavesOf T (namedIn q s) u
 
-  abbrev ts : List Text
-  ts = repetitions q s f
+  abbrev n : ℕ
+  n = repetitions q s f
 
-  abbrev textOf : ℕ → Leaf → Text
-  textOf r l = leafIn q whole (piece r ts) (l .component) (l .subcomponent)
+  module _ (judged : (i : ℕ) → i < n → FilledJudged q (entriesAt q s f ls) (1 + i)) where
+    kept-by : (i : ℕ) (b : Bool) → ltb i n ≡ b → All (LeafKept q s f (suc i)) ls
+    kept-by i true e =
+        let z : 1 + i ≡ suc i = omega arith in
+        let j : FilledJudged q (entriesAt q s f ls) (suc i) = rw z at (judged i (ltb-true i n e)) in
+        leaves-kept q s f (suc i) ls (isFilled (entriesAt q s f ls (suc i))) refl j
+    kept-by i false e = nothing-kept q s f (suc i) ls (λ c b. leaf-beyond q s f i c b (ltb-false i n e))
 
-  -- a leaf of the field is that leaf of the repetition
-  leaf-in : (r c b : ℕ) → leafAt q s f r c b ≡ leafIn q whole (piece r ts) c b
-  unfolding leafAt repetitions part
-  leaf-in r c b = ap (λ (t : Text). part whole (inRepetition q c b) t) (pieces-same q whole (field q s f) r)
+    all-kept-in : (r : ℕ) → All (LeafKept q s f r) ls
+    all-kept-in zero = nothing-kept q s f 0 ls (λ c b. leaf-nought q s f c b)
+    all-kept-in (suc i) = kept-by i (ltb i n) refl
 
-  module _ (judged : All (FilledJudged q (entriesOf q whole ls)) ts) where
-    all-kept-in : (r : ℕ) → All (λ (l : Leaf). Kept q l (textOf r l)) ls
-    all-kept-in r =
-        piece-all (λ t. All (LeafKept q whole t) ls) (nil-kept q whole ls) ts
-        (all-map (FilledJudged q (entriesOf q whole ls)) (λ t. All (LeafKept q whole t) ls)
-        (λ t a. leaves-kept q whole t ls (isFilled (entriesOf q whole ls t)) refl a) ts judged) r
+    module _ (e : startsFilled (filledUpTo (entriesAt q s f ls) 1 n) ≡ true) where
+      abbrev first : (isFilled (entriesAt q s f ls 1) ≡ true) × (0 < n)
+      first = first-filled q (entriesAt q s f ls) n e
 
-    module _ (e : startsFilled (filledFrom 1 (entriesOf q whole ls) ts) ≡ true) where
-      abbrev first : (isFilled (entriesOf q whole ls (piece 1 ts)) ≡ true) × EntriesJudged q (entriesOf q whole ls (piece 1 ts))
-      first = first-judged q (entriesOf q whole ls) ts judged e
-
-      has-starred : All (λ (l : Leaf). l .star ≡ true → empty (leafAt q s f 1 (l .component) (l .subcomponent)) ≡ false) ls
+      has-starred : All (λ (l : Leaf). l .star ≡ true → empty (textOf q s f 1 l) ≡ false) ls
       has-starred =
-          all-map (λ l. Judged q l (textOf 1 l)) (λ l. l .star ≡ true → empty (leafAt q s f 1 (l .component) (l .subcomponent)) ≡ false)
-          (λ l w a. rw (leaf-in 1 (l .component) (l .subcomponent)) (starred-some (empty (textOf 1 l)) (l .star) (w .1) a)) ls
-          (entries-all q whole (piece 1 ts) ls (first .1))
+          all-map (λ l. Judged q l (textOf q s f 1 l)) (λ l. l .star ≡ true → empty (textOf q s f 1 l) ≡ false)
+          (λ l w a. starred-some (empty (textOf q s f 1 l)) (l .star) (w .1) a) ls
+          (entries-all q s f 1 ls (judged 0 (first .1) (first .0)))
 
-      has-some : some (λ (l : Leaf). not (empty (leafAt q s f 1 (l .component) (l .subcomponent)))) ls ≡ true
-      has-some =
-          some-mono (λ l. not (empty (textOf 1 l))) (λ l. not (empty (leafAt q s f 1 (l .component) (l .subcomponent))))
-          (λ l a. rw (leaf-in 1 (l .component) (l .subcomponent)) a) ls
-          (sym (some-map (λ (x : Entry). not (empty (x .text))) (λ (l : Leaf). record { leaf = l; text = textOf 1 l }) ls) ∙ first .0)
+      has-some : some (λ (l : Leaf). not (empty (textOf q s f 1 l))) ls ≡ true
+      has-some = sym (some-map (λ (x : Entry). not (empty (x .text))) (λ (l : Leaf). record { leaf = l; text = textOf q s f 1 l }) ls) ∙ first .0
 
   field-kept : (vs : List Field) → FieldJudged q vs (fieldSeen T q s u) → FieldKept T q s u
   unfolding fieldSeen
   field-kept vs w =
-      let judged : All (FilledJudged q (entriesOf q whole ls)) ts = filled-judged q (entriesOf q whole ls) 1 ts (w .1) in
+      let judged = filled-judged q (entriesAt q s f ls) 1 n (w .1) in
       record {
-        kept = λ r. all-map (λ l. Kept q l (textOf r l)) (λ l. Kept q l (leafAt q s f r (l .component) (l .subcomponent)))
-            (λ l k. subst (Kept q l) (sym (leaf-in r (l .component) (l .subcomponent))) k) ls (all-kept-in judged r);
-        starred = λ e. has-starred judged (required-filled (u .usage) vs (startsFilled (filledFrom 1 (entriesOf q whole ls) ts)) (w .0) e);
-        filled = λ e. has-some judged (required-filled (u .usage) vs (startsFilled (filledFrom 1 (entriesOf q whole ls) ts)) (w .0) e);
+        kept = all-kept-in judged;
+        starred = λ e. has-starred judged (required-filled (u .usage) vs (startsFilled (filledUpTo (entriesAt q s f ls) 1 n)) (w .0) e);
+        filled = λ e. has-some judged (required-filled (u .usage) vs (startsFilled (filledUpTo (entriesAt q s f ls) 1 n)) (w .0) e);
       }
 
 -- 6. THE LAW, for each listed segment of an accepted message, and for one by its name and occurrence

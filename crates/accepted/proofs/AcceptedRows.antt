@@ -1,5 +1,5 @@
 -- What an accepted message has at the leaves of a table's rows, by tests on the table.
-use mathlib.Core.Path.{_≡_, refl, sym, subst}
+use mathlib.Core.Path.{_≡_, refl, sym, subst, _∙_}
 use Prim.Native.Nat.{ℕ, _≤_}
 use native.Mathlib.Omega.{arith}
 use mathlib.Core.Bool.{Bool, true, false, not, _&&_, _||_}
@@ -17,6 +17,7 @@ use Rattle.text.proofs.Lists.{All, and-both, all-map, all-both, all-keep, all-k
 use Rattle.frame.specs.Segments.{occurrence, fewer}
 use Rattle.profile.specs.Table.{Table, Leaf, Listed, leaf, named-by, Usage, O, R, C, Row, Rule, isListed, rulesOf, leavesIn, leavesOf}
 use Rattle.profile.proofs.Gathered.{RowOk, RuleOk, gathered-all, all-gathered}
+use Rattle.checks.proofs.Stands.{text-is}
 use Rattle.checks.specs.Place.{place, leafAt, textAt}
 use Rattle.checks.specs.View.{namedIn}
 use Rattle.checks.specs.Fault.{accepted, verdict}
@@ -161,7 +162,6 @@ module _ (T : Table) (m : Text) (ok : verdict T m ≡ accepted) (n : Text) (o : 
   -- it has no bad escape and is no longer than its limit
   pub accepted-fits : (k : ℕ) → someLeaf T n f (isLimited c b k) ≡ true
       → (r : ℕ) → let t = textAt m (place n o f r c b) in (badEscape q t ≡ false) × (length t ≤ k)
-  unfolding textAt
   accepted-fits k e r =
       let K : ℕ → Listed → Type 0 = λ g x. All (λ (l : Leaf). Kept q l (textOf g r l)) (leavesBy x) in
       let l = leaf-found T n K
@@ -171,7 +171,7 @@ module _ (T : Table) (m : Text) (ok : verdict T m ≡ accepted) (n : Text) (o : 
       (accepted-fields T m ok n (leaf-listed T n f (isLimited c b k) e) o low there)))
       f (isLimited c b k) e in
       let h = both (isAt c b (l .0)) (eqb (l .0 .limit) k) (l .1 .1) in
-      subst (λ (t : Text). (badEscape q t ≡ false) × (length t ≤ k)) (same-place r f (l .0) (eq-eqb f f refl) (h .0))
+      subst (λ (t : Text). (badEscape q t ≡ false) × (length t ≤ k)) (same-place r f (l .0) (eq-eqb f f refl) (h .0) ∙ sym (text-is m (place n o f r c b)))
       (kept-fits q (l .0) (textOf f r (l .0)) k (h .1) (l .1 .0 .0))
 
   -- in a required field a starred leaf is there
@@ -184,7 +184,6 @@ module _ (T : Table) (m : Text) (ok : verdict T m ≡ accepted) (n : Text) (o : 
       (accepted-fields T m ok n l o low there) (field-required T n f e)
 
   pub accepted-starred : everyR T n f ≡ true → someLeaf T n f (isStarred c b) ≡ true → 1 ≤ length (textAt m (place n o f 1 c b))
-  unfolding textAt
   accepted-starred must e =
       let Has : ℕ → Leaf → Type 0 = λ g l. l .star ≡ true → empty (textOf g 1 l) ≡ false in
       let K : ℕ → Listed → Type 0 = λ g x. eqb g f ≡ true → All (Has g) (leavesBy x) in
@@ -197,8 +196,9 @@ module _ (T : Table) (m : Text) (ok : verdict T m ≡ accepted) (n : Text) (o : 
       (rulesOf T n) (required (leaf-listed T n f (isStarred c b) e) must)))
       f (isStarred c b) e in
       let h = both (isAt c b (l .0)) (l .0 .star) (l .1 .1) in
-      some-length (leafAt q s f 1 c b)
-      (rw (← same-place 1 f (l .0) (eq-eqb f f refl) (h .0)) (l .1 .0 (eq-eqb f f refl) .0 (h .1)))
+      rw (text-is m (place n o f 1 c b))
+      (some-length (leafAt q s f 1 c b)
+      (rw (← same-place 1 f (l .0) (eq-eqb f f refl) (h .0)) (l .1 .0 (eq-eqb f f refl) .0 (h .1))))
 
   -- and so is the only leaf
   listed-only : (p : Leaf → Bool) (x : Listed) → isLeaf p x ≡ true → All (λ l. p l ≡ true) (leavesBy x)
@@ -215,7 +215,6 @@ module _ (T : Table) (m : Text) (ok : verdict T m ≡ accepted) (n : Text) (o : 
 
   pub accepted-only : everyR T n f ≡ true → someLeaf T n f (isAt c b) ≡ true → everyLeaf T n f (isAt c b) ≡ true
       → 1 ≤ length (textAt m (place n o f 1 c b))
-  unfolding textAt
   accepted-only must e only =
       let K : ℕ → Listed → Type 0 = λ g x. eqb g f ≡ true → empty (leafAt q s f 1 c b) ≡ false in
       let Leaves : Rule → Type 0 = λ u. All (λ x. eqb (u .field) f ≡ true → isLeaf (isAt c b) x ≡ true) (u .lists) in
@@ -231,4 +230,4 @@ module _ (T : Table) (m : Text) (ok : verdict T m ≡ accepted) (n : Text) (o : 
       (rulesOf T n)
       (all-both Required Leaves (rulesOf T n) (required (leaf-listed T n f (isAt c b) e) must) (field-leaves T n f (isAt c b) only))))
       f (isAt c b) e in
-      some-length (leafAt q s f 1 c b) (l .1 .0 (eq-eqb f f refl))
+      rw (text-is m (place n o f 1 c b)) (some-length (leafAt q s f 1 c b) (l .1 .0 (eq-eqb f f refl)))

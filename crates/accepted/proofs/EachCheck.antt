@@ -1,6 +1,6 @@
 -- What holds of each check of a message, and so of its fault, by tests on the table's fields and leaves and by what holds of the segments' names.
-use mathlib.Core.Path.{_≡_}
-use Prim.Native.Nat.{ℕ, suc}
+use mathlib.Core.Path.{_≡_, refl}
+use Prim.Native.Nat.{ℕ, zero, suc}
 use mathlib.Core.Bool.{Bool, true, _&&_}
 use mathlib.Core.List.{List, [], _∷_, map, flatMap}
 use Rattle.text.specs.Bytes.{Text, every, keep, same}
@@ -8,12 +8,12 @@ use Rattle.text.specs.declared.marks.Marks.{Marks}
 use Rattle.text.specs.Marks.{marksOf}
 use Rattle.text.proofs.Tests.{both, picks}
 use Rattle.text.proofs.Lists.{All, all-map, all-append, all-keep, every-all, all-flatMap}
-use Rattle.frame.specs.Segments.{name, unsplit}
-use Rattle.profile.specs.Table.{Table, Leaf, Listed, leaf, named-by, Row, Type-leaves, typeLeaves, Rule, rulesOf, leavesIn, leavesOf}
+use Rattle.frame.specs.Segments.{name}
+use Rattle.profile.specs.Table.{Table, Codes, any, only, Leaf, Listed, leaf, named-by, Row, Type-leaves, typeLeaves, Rule, rulesOf, leavesIn, leavesOf}
 use Rattle.profile.proofs.Gathered.{gathered-all}
-use Rattle.checks.specs.Place.{Place, place, leafIn, repetitions}
-use Rattle.checks.specs.View.{Entry, Repetition, Field, Segment, entriesOf, isFilled, filledFrom, namedIn, fieldSeen, segmentSeen, listedSegments, view}
-use Rattle.checks.specs.Fault.{Check, leafChecks, repetitionChecks, fieldChecks, count, walk, checks, Verdict, accepted, fault, firstBroken, verdict}
+use Rattle.checks.specs.Place.{Place, place, leafAt, repetitions}
+use Rattle.checks.specs.View.{Entry, Repetition, Field, Segment, entriesAt, isFilled, filledUpTo, namedIn, fieldSeen, segmentSeen, listedSegments, view}
+use Rattle.checks.specs.Fault.{Check, listChecks, leafChecks, repetitionChecks, fieldChecks, count, walk, checks, Verdict, accepted, fault, firstBroken, verdict}
 
 -- what is made of each member
 all-made : {A B : Type 0} (P : B → Type 0) (f : A → B) → ((x : A) → P (f x)) → (l : List A) → All P (map f l)
@@ -51,7 +51,7 @@ module _ (F : ℕ → Bool) (L : Leaf → Bool) where
   EntryPasses e = L (e .leaf) ≡ true
 
   abbrev RepetitionPasses : Repetition → Type 0
-  RepetitionPasses r = All EntryPasses (r .entries)
+  RepetitionPasses r = All EntryPasses (r .entries) × ((i : ℕ) × (r .number ≡ suc i))
 
   abbrev FieldPasses : Field → Type 0
   FieldPasses v = (F (v .rule .field) ≡ true) × All RepetitionPasses (v .filled)
@@ -63,12 +63,12 @@ module _ (F : ℕ → Bool) (L : Leaf → Bool) where
   named-leaves (x ∷ xs) otherwise t a h =
       picks Leaves (same (x .type) t) (every-all L (x .leaves) (a .0)) (named-leaves xs otherwise t (a .1) h)
 
-  filled-pass : (k : ℕ) (read : Text → List Entry) (ts : List Text) → ((t : Text) → All EntryPasses (read t)) → All RepetitionPasses (filledFrom k read ts)
-  unfolding filledFrom
-  filled-pass k read [] h = tt
-  filled-pass k read (t ∷ ts) h =
-      let rest = filled-pass (suc k) read ts h in
-      picks (All RepetitionPasses) (isFilled (read t)) (h t, rest) rest
+  filled-pass : (read : ℕ → List Entry) (k n : ℕ) → ((r : ℕ) → All EntryPasses (read r)) → All RepetitionPasses (filledUpTo read (suc k) n)
+  unfolding filledUpTo
+  filled-pass read k zero h = tt
+  filled-pass read k (suc n) h =
+      let rest = filled-pass read (suc k) n h in
+      picks (All RepetitionPasses) (isFilled (read (suc k))) ((h (suc k), (k, refl)), rest) rest
 
   module _ (T : Table) (ok : tablePasses T ≡ true) where
     parts : (every rowPasses (T .rows) ≡ true) × ((every typePasses (T .types) ≡ true) × (every L (T .otherwise) ≡ true))
@@ -102,12 +102,11 @@ module _ (F : ℕ → Bool) (L : Leaf → Bool) where
     field-passes : (q : Marks) (s : Text) (u : Rule) → RulePasses u → FieldPasses (fieldSeen T q s u)
     unfolding fieldSeen
     field-passes q s u h =
-        let ls = leavesOf T (namedIn q s) u in
-        let w = unsplit s (u .field) in (
+        let ls = leavesOf T (namedIn q s) u in (
           h .1,
-          filled-pass 1 (entriesOf q w ls) (repetitions q s (u .field))
-              (λ t.
-              all-made-of (λ l. L l ≡ true) EntryPasses (λ (l : Leaf). record { leaf = l; text = leafIn q w t (l .component) (l .subcomponent) })
+          filled-pass (entriesAt q s (u .field) ls) 0 (repetitions q s (u .field))
+              (λ r.
+              all-made-of (λ l. L l ≡ true) EntryPasses (λ (l : Leaf). record { leaf = l; text = leafAt q s (u .field) r (l .component) (l .subcomponent) })
               (λ l e. e) ls (leaves-pass (namedIn q s) u h)),
         )
 
@@ -120,34 +119,49 @@ module _ (F : ℕ → Bool) (L : Leaf → Bool) where
     pub record Kinds : Type 0 where
       pub out-of-place : (n : Text) (o : ℕ) → N n → C (place n o 0 0 0 0) 1
       pub end : (n : Text) (o : ℕ) → N n → C (place n o 0 0 0 0) 2
-      pub missing : (n : Text) (o f : ℕ) → N n → F f ≡ true → C (place n o f 1 0 0) 3
-      pub surplus : (n : Text) (o f r : ℕ) → N n → F f ≡ true → C (place n o f r 0 0) 4
+      pub missing : (n : Text) (o f : ℕ) → N n → F f ≡ true → C (place n (suc o) f 1 0 0) 3
+      pub surplus : (n : Text) (o f r : ℕ) → N n → F f ≡ true → C (place n (suc o) f (suc r) 0 0) 4
       pub leaf :
           (n : Text) (o f r : ℕ) (l : Leaf) → N n → F f ≡ true → L l ≡ true
-          → All (C (place n o f r (l .component) (l .subcomponent))) (3 ∷ 5 ∷ 6 ∷ 7 ∷ l .reason ∷ [])
+          → All (C (place n (suc o) f (suc r) (l .component) (l .subcomponent))) (3 ∷ 5 ∷ 6 ∷ 7 ∷ [])
+      pub list :
+          (n : Text) (o f r : ℕ) (l : Leaf) → N n → F f ≡ true → L l ≡ true → (codes : List Text) (why : ℕ) → l .list ≡ only codes why
+          → C (place n (suc o) f (suc r) (l .component) (l .subcomponent)) why
 
     abbrev Holds : Check → Type 0
     Holds c = C (c .place) (c .reason)
+
+    list-all : (p : Place) (c : Codes) (t : Text) → ((codes : List Text) (why : ℕ) → c ≡ only codes why → C p why) → All Holds (listChecks p c t)
+    list-all p any t h = tt
+    list-all p (only codes why) t h = (h codes why refl, tt)
 
     abbrev SegmentPasses : Segment → Type 0
     SegmentPasses s = N (s .name) × All FieldPasses (s .fields)
 
     module _ (k : Kinds) (q : Marks) where
-      repetition-all : (n : Text) (o f : ℕ) → N n → F f ≡ true → (r : Repetition) → RepetitionPasses r → All Holds (repetitionChecks q n o f r)
+      -- the checks of a leaf of repetition i + 1
+      leaf-all : (n : Text) (o f i : ℕ) → N n → F f ≡ true → (e : Entry) → EntryPasses e
+          → All Holds (leafChecks q (place n (suc o) f (suc i) (e .leaf .component) (e .leaf .subcomponent)) (e .leaf) (e .text))
+      leaf-all n o f i h g e x =
+          let l = e .leaf in
+          let w = k .leaf n o f i l h g x in
+          (w .0, (w .1 .0, (w .1 .1 .0, (w .1 .1 .1 .0, list-all (place n (suc o) f (suc i) (l .component) (l .subcomponent)) (l .list) (e .text) (k .list n o f i l h g x)))))
+
+      repetition-all : (n : Text) (o f : ℕ) → N n → F f ≡ true → (r : Repetition) → RepetitionPasses r → All Holds (repetitionChecks q n (suc o) f r)
       repetition-all n o f h g r a =
           let made : Entry → List Check =
-          λ e. leafChecks q (place n o f (r .number) (e .leaf .component) (e .leaf .subcomponent)) (e .leaf) (e .text) in
+          λ e. leafChecks q (place n (suc o) f (r .number) (e .leaf .component) (e .leaf .subcomponent)) (e .leaf) (e .text) in
           all-flatMap Holds made (r .entries)
-          (all-map EntryPasses (λ e. All Holds (made e)) (λ e. k .leaf n o f (r .number) (e .leaf) h g) (r .entries) a)
+          (all-map EntryPasses (λ e. All Holds (made e)) (λ e x. rw (a .1 .1) (leaf-all n o f (a .1 .0) h g e x)) (r .entries) (a .0))
 
-      field-all : (n : Text) (o : ℕ) → N n → (vs : List Field) (v : Field) → FieldPasses v → All Holds (fieldChecks q n o vs v)
+      field-all : (n : Text) (o : ℕ) → N n → (vs : List Field) (v : Field) → FieldPasses v → All Holds (fieldChecks q n (suc o) vs v)
       field-all n o h vs v a =
           let f = v .rule .field in (
-            k .surplus n o f (suc (v .rule .repetitions)) h (a .0),
+            k .surplus n o f (v .rule .repetitions) h (a .0),
             (
               k .missing n o f h (a .0),
-              all-flatMap Holds (repetitionChecks q n o f) (v .filled)
-                  (all-map RepetitionPasses (λ r. All Holds (repetitionChecks q n o f r)) (repetition-all n o f h (a .0)) (v .filled) (a .1)),
+              all-flatMap Holds (repetitionChecks q n (suc o) f) (v .filled)
+                  (all-map RepetitionPasses (λ r. All Holds (repetitionChecks q n (suc o) f r)) (repetition-all n o f h (a .0)) (v .filled) (a .1)),
             ),
           )
 
@@ -160,7 +174,7 @@ module _ (F : ℕ → Bool) (L : Leaf → Bool) where
             k .out-of-place n o (a .0 .0),
             all-append Holds (flatMap (fieldChecks q n o (s .fields)) (s .fields)) (walk T q (n ∷ ns) n ss)
                 (all-flatMap Holds (fieldChecks q n o (s .fields)) (s .fields)
-                (all-map FieldPasses (λ v. All Holds (fieldChecks q n o (s .fields) v)) (field-all n o (a .0 .0) (s .fields)) (s .fields) (a .0 .1)))
+                (all-map FieldPasses (λ v. All Holds (fieldChecks q n o (s .fields) v)) (field-all n (count n ns) (a .0 .0) (s .fields)) (s .fields) (a .0 .1)))
                 (walk-all T (n ∷ ns) n ss (a .0 .0) (a .1)),
           )
 

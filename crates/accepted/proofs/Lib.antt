@@ -1,5 +1,6 @@
 pub mod EachCheck
 pub mod Reasons
+pub mod Zeros
 pub mod Accepted
 pub mod AcceptedLeaf
 pub mod AcceptedRows

@@ -14,10 +14,12 @@ use Rattle.text.proofs.Lists.{or-false}
 use Rattle.frame.specs.Segments.{segments, name, named, ofName, fewer}
 use Rattle.frame.specs.Frame.{framed}
 use Rattle.profile.specs.Table.{Table, isListed, mayFollow}
-use Rattle.profile.specs.Rows.{rows}
+use Rattle.profile.specs.Noted.{noted}
+use Rattle.profile.specs.Fields.{rows}
 use Rattle.profile.specs.Profile.{profile01}
 use Rattle.checks.specs.View.{Segment, segmentSeen, view}
-use Rattle.checks.specs.Fault.{Check, noneBroken, fieldChecks, count, walk, checks, accepted, verdict}
+use Rattle.checks.specs.Fault.{Check, fieldChecks, count, walk, checks, accepted, verdict}
+use Rattle.checks.specs.First.{noneBroken}
 use Rattle.accepted.proofs.Accepted.{accepted-none}
 use Rattle.frame.proofs.Header.{header-opens}
 
@@ -27,7 +29,7 @@ unfolding every
 none-behind [] ds e = e
 none-behind (c ∷ cs) ds e = none-behind cs ds (tests.both (not (c .broken)) (noneBroken (cs ++ ds)) e .1)
 
--- a walk with no broken check: its first segment may stand there, and the walk behind it has none
+-- a walk with no broken check: its first segment may stand there, and the walk after it has none
 module _ (T : Table) (q : Marks) (ns : List Text) (last : Text) (s : Segment) (ss : List Segment) where
   abbrev own : List Check
   own = flatMap (fieldChecks q (s .name) (suc (count (s .name) ns)) (s .fields)) (s .fields)
@@ -73,14 +75,14 @@ abbrev patient : Text
 patient = bytes "PID"
 
 pub header-listed : isListed profile01 header ≡ true
-unfolding some same profile01 rows
+unfolding flatMap some same profile01 noted rows
 header-listed = refl
 
 patient-next : (n : Text) → mayFollow profile01 header n ≡ true → same n patient ≡ true
 unfolding some same profile01
 patient-next n e = rw (or-false, or-false) at e
 
--- the listed segments, and those behind the header
+-- the listed segments, and those after the header
 module _ (q : Marks) where
   abbrev seen : List Text → List Segment
   seen ss = map (segmentSeen profile01 q) ss

@@ -1,7 +1,7 @@
 -- The text at any place of a message with a good frame is of bytes 20 to 7E hex.
 use mathlib.Core.Path.{_≡_, refl}
 use Prim.Native.Nat.{ℕ, zero, suc}
-use mathlib.Core.Bool.{Bool, true, false}
+use mathlib.Core.Bool.{Bool, true, false, _&&_}
 use mathlib.Core.List.{List, [], _∷_, dropLast}
 use lib.ListN.{take, drop}
 use lib.Dec.{eqb}
@@ -11,11 +11,16 @@ use Rattle.text.specs.Marks.{marksOf}
 use Rattle.text.proofs.Tests.{both}
 use Rattle.text.proofs.Lists.{and-both, or-false, All, all-keep, every-drop, every-take}
 use Rattle.parts.specs.Split.{front, split, piece, ended}
-use Rattle.parts.specs.Descent.{Step, cut, part, inField}
-use Rattle.frame.specs.Segments.{segments, named, ofName, isHeader, headerField, field, unsplit}
+use Rattle.parts.specs.Descent.{Step, inField}
+use Rattle.parts.specs.Span.{partText}
+use Rattle.frame.specs.Segments.{segments, named, ofName, isHeader, field, unsplit}
+use Rattle.frame.specs.Starts.{headerField}
 use Rattle.frame.specs.Frame.{allowed, framed}
 use Rattle.frame.proofs.Frame.{framed-tests}
+use Rattle.frame.proofs.Segments.{field-is}
 use Rattle.checks.specs.Place.{Place, leafAt, textAt}
+use Rattle.checks.proofs.Leaf.{leafText, leaf-is}
+use Rattle.checks.proofs.Stands.{text-is}
 
 -- every byte of a text passes a test; of each of some texts
 abbrev pub Each : (ℕ → Bool) → Text → Type 0
@@ -56,16 +61,21 @@ piece-each p (suc zero) (t ∷ ps) a = a .0
 piece-each p (suc (suc i)) (t ∷ ps) a = piece-each p (suc i) ps (a .1)
 
 -- each part of a text
-cut-each : (p : ℕ → Bool) (whole : Bool) (sep : ℕ) (t : Text) → Each p t → Eaches p (cut whole sep t)
-cut-each p true sep t e = (e, tt)
-cut-each p false sep t e = split-each p sep t e
+part-each : (p : ℕ → Bool) (ss : List Step) (t : Text) → Each p t → Each p (partText ss t)
+unfolding partText
+part-each p [] t e = e
+part-each p (s ∷ ss) t e =
+    part-each p ss (piece (s .number) (split (s .mark) t))
+    (piece-each p (s .number) (split (s .mark) t) (split-each p (s .mark) t e))
 
-part-each : (p : ℕ → Bool) (whole : Bool) (ss : List Step) (t : Text) → Each p t → Each p (part whole ss t)
-unfolding part
-part-each p whole [] t e = e
-part-each p whole (s ∷ ss) t e =
-    part-each p whole ss (piece (s .number) (cut whole (s .mark) t))
-    (piece-each p (s .number) (cut whole (s .mark) t) (cut-each p whole (s .mark) t e))
+-- a leaf of a field, split or not
+one-each : (p : ℕ → Bool) (h : Bool) (x : Text) → Each p x → Each p (pick h x [])
+one-each p true x e = e
+one-each p false x e = each-none p
+
+leaf-step : (p : ℕ → Bool) (w : Bool) (q : Marks) (x : Text) (r c b : ℕ) → Each p x → Each p (leafText w q x r c b)
+leaf-step p true q x r c b e = one-each p (eqb r 1 && eqb c 1 && eqb b 1) x e
+leaf-step p false q x r c b e = part-each p (inField q r c b) x e
 
 -- each field of a segment
 module _ (p : ℕ → Bool) (q : Marks) (s : Text) (e : Each p s) where
@@ -84,12 +94,10 @@ module _ (p : ℕ → Bool) (q : Marks) (s : Text) (e : Each p s) where
   field-step f false = behind-each 4 f
 
   field-each : (f : ℕ) → Each p (field q s f)
-  unfolding field
-  field-each f = field-step f (isHeader s)
+  field-each f = rw (field-is q s f) (field-step f (isHeader s))
 
   leaf-each : (f r c b : ℕ) → Each p (leafAt q s f r c b)
-  unfolding leafAt
-  leaf-each f r c b = part-each p (unsplit s f) (inField q r c b) (field q s f) (field-each f)
+  leaf-each f r c b = rw (leaf-is q s f r c b) (leaf-step p (unsplit s f) q (field q s f) r c b (field-each f))
 
 -- the segments of a message of allowed bytes
 last-each : (p : ℕ → Bool) (ps : List Text) → Eaches p ps → Eaches p (dropLast ps)
@@ -106,10 +114,10 @@ segments-plain m e = last-each printable (split cr m) (split-between printable a
 
 -- THE TEXT AT A PLACE
 pub text-plain : (m : Text) (p : Place) → framed m ≡ true → every printable (textAt m p) ≡ true
-unfolding textAt
 text-plain m p f =
     let ss = ofName (p .name) (segments m) in
-    leaf-each printable (marksOf m) (piece (p .occurrence) ss)
+    rw (text-is m p)
+    (leaf-each printable (marksOf m) (piece (p .occurrence) ss)
     (piece-each printable (p .occurrence) ss
     (all-keep (Each printable) (named (p .name)) (segments m) (segments-plain m (framed-tests m f .bytes-allowed))))
-    (p .field) (p .repetition) (p .component) (p .subcomponent)
+    (p .field) (p .repetition) (p .component) (p .subcomponent))

@@ -1,14 +1,17 @@
--- A FAULT'S REASON IS 1 TO 12: those of the walk are 1 to 7, and a leaf's own is what the table says.
+-- A FAULT'S REASON IS 1 TO 12: those of the walk are 1 to 7, and a list's own is what the table says.
 use mathlib.Core.Path.{_≡_, refl}
+use mathlib.Core.List.{flatMap}
 use Prim.Native.Nat.{ℕ, _≤_}
 use mathlib.Core.Bool.{Bool, true}
 use lib.Dec.{leb}
 use borrow.Author.Tests.{leb-true}
-use Rattle.text.specs.Bytes.{Text, every}
+use Rattle.text.specs.Bytes.{Text, every, same}
 use Rattle.text.specs.Limits.{_to_, isWithin}
 use Rattle.text.proofs.Tests.{both}
 use Rattle.profile.specs.Table.{Table, Leaf}
-use Rattle.profile.specs.Rows.{rows}
+use Rattle.profile.specs.Order.{reasonFits}
+use Rattle.profile.specs.Noted.{noted}
+use Rattle.profile.specs.Fields.{rows}
 use Rattle.profile.specs.Profile.{profile01}
 use Rattle.checks.specs.Place.{Place}
 use Rattle.checks.specs.Fault.{fault, verdict}
@@ -17,27 +20,28 @@ use Rattle.accepted.proofs.EachCheck.{tablePasses, verdict-all}
 abbrev isReason : ℕ → Bool
 isReason n = isWithin (1 to 12) n
 
--- a table whose leaves have reasons from 1 to 12
+-- a table whose lists have reasons from 1 to 12
 abbrev anyField : ℕ → Bool
 anyField f = true
 
-abbrev reasonFits : Leaf → Bool
-reasonFits l = isReason (l .reason)
+abbrev leafFits : Leaf → Bool
+leafFits l = reasonFits (l .list)
 
 abbrev pub reasonsFit : Table → Bool
-reasonsFit T = tablePasses anyField reasonFits T
+reasonsFit T = tablePasses anyField leafFits T
 
 -- by any such table
 pub fault-reason : (T : Table) → reasonsFit T ≡ true → (m : Text) (p : Place) (n : ℕ) → verdict T m ≡ fault p n → (1 ≤ n) × (n ≤ 12)
 fault-reason T ok m p n e =
     let v =
-    verdict-all anyField reasonFits (λ x. Unit) (λ p n. isReason n ≡ true) T ok
+    verdict-all anyField leafFits (λ x. Unit) (λ p n. isReason n ≡ true) T ok
     (record {
       out-of-place = λ x o h. refl;
       end = λ x o h. refl;
       missing = λ x o f h g. refl;
       surplus = λ x o f r h g. refl;
-      leaf = λ x o f r l h g fits. (refl, (refl, (refl, (refl, (fits, tt)))));
+      leaf = λ x o f r l h g fits. (refl, (refl, (refl, (refl, tt))));
+      list = λ x o f r l h g fits codes why is. rw is at fits;
     })
     tt (λ s. tt) m in
     let w = both (leb 1 n) (leb n 12) (rw e at v) in
@@ -45,7 +49,7 @@ fault-reason T ok m p n e =
 
 -- 01's table is one
 profile-reasons : reasonsFit profile01 ≡ true
-unfolding tablePasses every profile01 rows
+unfolding flatMap same tablePasses every profile01 noted rows
 profile-reasons = refl
 
 pub fault-reason01 : (m : Text) (p : Place) (n : ℕ) → verdict profile01 m ≡ fault p n → (1 ≤ n) × (n ≤ 12)

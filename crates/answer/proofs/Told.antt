@@ -11,7 +11,7 @@ use Rattle.text.specs.declared.refusal.Refusal.{Refusal}
 use Rattle.text.proofs.Answer.{told-refused}
 use Rattle.text.proofs.Puts.{puts-length, puts-head}
 use Rattle.line.specs.Line.{asLine, refusedLine, answerText}
-use Rattle.line.specs.Inner.{Shows}
+use Rattle.line.specs.Line.{Shows}
 
 -- a refusal: its line is put to the front
 pub shows-refused : (a : Answer Text) (r : Refusal) (before out : Text) (n : ℕ) → refused r ≡ reported a → Puts before 0 (asLine (refusedLine r)) out n

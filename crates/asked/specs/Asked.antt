@@ -1,3 +1,4 @@
+-- The desk's programs promise this.
 -- A number as a program is asked for it: digits, from the left.
 use Prim.Native.Nat.{ℕ, _+_, _*_, _-_, min}
 use mathlib.Core.Bool.{_||_, not}
@@ -10,7 +11,7 @@ use Rattle.asked.specs.declared.Asked.the-variants.{Bad, Number}
 abbrev pub most : ℕ
 most = 18446744073709551615
 
--- the number that digits write behind those that wrote n
+-- the number that digits write after those that wrote n
 unfoldable pub valueFrom : ℕ → Text → ℕ
 valueFrom n [] = n
 valueFrom n (b ∷ t) = valueFrom (n * 10 + (b - byte "0")) t

@@ -1,1 +1,2 @@
+-- The desk's programs promise this.
 pub mod Asked

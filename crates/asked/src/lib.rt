@@ -1,6 +1,7 @@
 // The number that a program is asked for, as an argument writes it.
 ghost use Prim.Native.Nat.{_+_, _*_, _-_, _≤_};
 ghost use mathlib.Core.Path.{_≡_};
+ghost use lib.ListN.{length};
 ghost use Rattle.text.specs.Bytes.{byte};
 ghost use Rattle.asked.specs.Asked.{fitting, asked};
 use text::is_digit;
@@ -43,4 +44,18 @@ pub fn asked_number(t: &[u8]) -> Asked
         i += 1;
     }
     Asked::Number(n)
+}
+
+// Room for the longest argument: Linux hands a program for x86-64 none of more than 131,071 bytes.
+fn longest_word() -> [u8; 131072]
+    ensures { λ r. ⌜ 131072 ≡ length r ⌝ }
+{
+    [0; 131072]
+}
+
+// The number that the program's argument i writes.
+pub fn number_at(i: usize) -> Asked {
+    let mut word = longest_word();
+    let n = os::arg(i, &mut word);
+    asked_number(&word[..n])
 }

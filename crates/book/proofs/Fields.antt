@@ -64,7 +64,7 @@ module _ (x : Expected) (v rest : Text) (h : Held (x .most) v) (m : x .most < 65
   taken-before : taken x (before (x .tag) v rest) ≡ headSize + length v
   taken-before = rw (eq-eqb (x .tag) (x .tag) refl) (ap (λ (n : ℕ). headSize + n) size-before)
 
-  -- behind the field stands what follows it
+  -- after the field stands what follows it
   rest-before : drop (taken x (before (x .tag) v rest)) (before (x .tag) v rest) ≡ rest
   rest-before =
       ap (λ (n : ℕ). drop n (before (x .tag) v rest)) taken-before
@@ -91,7 +91,7 @@ module _ (x : Expected) (v rest : Text) (h : Held (x .most) v) (m : x .most < 65
         t : Text
         t = before (x .tag) v rest
 
-    -- the book from the value on, and from behind the field on
+    -- the book from the value on, and from after the field on
     module _ (tag at : ℕ) (book r′ : Text) (e : drop at book ≡ before (x .tag) v rest ++ r′) where
       from-value : drop (at + headSize) book ≡ v ++ (rest ++ r′)
       from-value = sym (drop-drop headSize at book) ∙ (ap (drop headSize) e ∙ append-assoc v rest r′)

@@ -18,10 +18,10 @@ use Rattle.slip.specs.Slot.{slotSize, slotStart, noSlot}
 use Rattle.book.specs.declared.Value.{Value}
 use Rattle.book.specs.declared.Value.the-variants as code
 use Rattle.tags.specs.declared.Field.the-variants as field
-use Rattle.tags.specs.Fields.{placerTag, countTag, headSize, countSize, longestField, mostOf, fieldOf, size, hasTag, Expected, expect, taken, isSlipFrom}
+use Rattle.tags.specs.Fields.{placerTag, countTag, headSize, countSize, mostOf, fieldOf, size, hasTag, Expected, expect, taken, isSlipFrom}
 use Rattle.book.specs.Read.{expected, isSlip, Part, valueFrom, isNone, orNothing, readSlip}
 use Rattle.book.specs.Told.{valueOf}
-use Rattle.tags.specs.Inner.{ReadsTag}
+use Rattle.tags.specs.Inner.{longestField, ReadsTag}
 use Rattle.book.specs.Inner.{readIn}
 
 -- the fields of n tags from k on
@@ -154,7 +154,7 @@ module _ (s : Text) (base tag : ℕ) (found : Value) (at k : ℕ) (c : ReadTo s 
                 (rw next (value-past k (mostOf k) (eqb k placerTag) (fieldsFrom (countTag - (k + 1)) (k + 1)) tag base at e s (reads .1 .0) w)) (c .seen);
           }
 
-  -- behind the five: the count and the zeros decide whether it is a slip
+  -- after the five: the count and the zeros decide whether it is a slip
   module _ (last : countTag ≤ k) (b : Bool) (ends : b ≡ isSlipFrom [] (drop at s)) where
     none-left : fieldsFrom (countTag - k) k ≡ []
     unfolding fieldsFrom

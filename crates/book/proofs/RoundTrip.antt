@@ -9,12 +9,12 @@ use lib.ListN.{length, drop}
 use lib.Dec.{leb}
 use Rattle.text.specs.Bytes.{Text, bytes, within}
 use Rattle.text.specs.Answer.{Answer, refused, given, test, first, tell}
-use Rattle.escape.specs.Escape.{resolved, resolvedFrom}
+use Rattle.escape.specs.Escape.{resolved}
 use Rattle.text.specs.Marks.{marksOf}
 use Rattle.text.specs.declared.marks.Marks.{Marks}
 use Rattle.text.specs.declared.refusal.Refusal.the-variants.{NoSlot, BadSlip, NoTag}
 use Rattle.text.proofs.Tests.{empty-some}
-use Rattle.escape.proofs.Escapes.{resolved-length}
+use Rattle.escape.proofs.Escapes.{resolved-none, resolved-length}
 use Rattle.profile.specs.Profile.{profile01}
 use Rattle.reader.specs.Place.{place, textAt}
 use Rattle.reader.specs.Observations.{observationsOf}
@@ -32,7 +32,7 @@ use Rattle.book.proofs.Fields.{Brief, Held, Reads, told, held-full}
 use Rattle.book.proofs.Whole.{slip-length, slip-reads}
 use Rattle.book.proofs.Slots.{filed, filed-length, filed-from, filed-slot, filed-other, filed-reads, filed-bytes}
 
--- the values are such as a slip holds
+-- the values are those that a slip may hold
 marks-plain : (m : Text) → PlainMarks (marksOf m)
 unfolding marksOf
 marks-plain m = usual-plain
@@ -42,7 +42,7 @@ module _ (q : Marks) (p : PlainMarks q) (most : ℕ) (t : Text) where
   taken-brief h = record { short = omega (arith, resolved-length q t, h .short); plain = resolved-plain q p t (h .plain) }
 
   filled-held : Filled q most t → Held most (resolved q t)
-  filled-held h = record { brief = taken-brief (h .taken); some = resolved-some q t (h .taken .good) (h .some) }
+  filled-held h = record { brief = taken-brief (h .taken); some = resolved-some q t (h .some) }
 
 module _ (m : Text) (g : ℕ) (f : Fitting m g) where
   control-held : Held longestControl (resolvedAt m (bytes "MSH") 1 10)
@@ -130,13 +130,13 @@ module _ (m : Text) (g k : ℕ) (book slip : Text) (e : file profile01 m g k boo
   patient-back = own-back 2 ∙ rw (held-full (patient-held m g (filed-fitting m g k book slip e)))
 
   pub no-placer-back : textAt m (place (bytes "OBR") g 2 1 1 1) ≡ [] → readBack m g k book 3 ≡ refused NoTag
-  unfolding valueOfTag resolvedFrom
-  no-placer-back z = own-back 3 ∙ rw z
+  unfolding valueOfTag
+  no-placer-back z = own-back 3 ∙ rw (z, resolved-none (marksOf m))
 
   pub placer-back : 1 ≤ length (textAt m (place (bytes "OBR") g 2 1 1 1)) → readBack m g k book 3 ≡ given (resolvedAt m (bytes "OBR") g 2)
   unfolding valueOfTag
   placer-back l =
-      let some = resolved-some (marksOf m) (textAt m (place (bytes "OBR") g 2 1 1 1)) ((filed-fitting m g k book slip e) .placer .good) l in
+      let some = resolved-some (marksOf m) (textAt m (place (bytes "OBR") g 2 1 1 1)) l in
       own-back 3 ∙ rw (empty-some (resolvedAt m (bytes "OBR") g 2) (λ e. omega arith))
 
   pub filler-back : readBack m g k book 4 ≡ given (resolvedAt m (bytes "OBR") g 3)

@@ -54,7 +54,7 @@ module _ (book slip : Text) (k : ℕ) (w : length slip ≡ slotSize) (room : slo
       length-append (take (slotStart k) book ++ slip) (drop (slotStart k + slotSize) book)
       ∙ omega (arith, front-length, length-drop (slotStart k + slotSize) book)
 
-  -- from the slot on, the book is the slip and what stood behind the slot
+  -- from the slot on, the book is the slip and what stood after the slot
   pub filed-from : drop (slotStart k) (filed book slip k) ≡ slip ++ drop (slotStart k + slotSize) book
   filed-from =
       ap (drop (slotStart k)) (append-assoc (take (slotStart k) book) slip (drop (slotStart k + slotSize) book))

@@ -1,3 +1,4 @@
+-- An entry's promise is made of this.
 -- Reading a slip: 17 to 19, or the tag's value as that part of the book.
 use Prim.Native.Nat.{ℕ, _+_}
 use mathlib.Core.Bool.{Bool, true, false, not, _&&_}
@@ -12,7 +13,7 @@ use Rattle.tags.specs.Fields.{countTag, headSize, Expected, size, hasTag, field
 unfoldable pub use Rattle.tags.specs.Fields.{isSlipFrom}
 use Rattle.slip.specs.Slot.{slotSize, slotStart, noSlot}
 
--- the five in their order
+-- the five fields of text, in their order
 abbrev pub expected : List Expected
 expected = map fieldOf (1 ∷ 2 ∷ 3 ∷ 4 ∷ 5 ∷ [])
 
@@ -49,10 +50,18 @@ slot book k = take slotSize (drop (slotStart k) book)
 -- the tests of a slot that begins at `base` of the book, and the one before them
 abbrev pub slipTests : Text → ℕ → ℕ → List Test
 slipTests s base tag =
-    test BadSlip (not (isSlip s)) ∷ test NoTag (isNone (valueFrom expected tag base s)) ∷ []
+    -- 18 BAD SLIP: slot isn't a slip
+    test BadSlip (not (isSlip s))
+    -- 19 NO TAG: that tag isn't in the slip
+    ∷ test NoTag (isNone (valueFrom expected tag base s))
+    ∷ []
 
 abbrev pub readTests : Text → ℕ → ℕ → List Test
-readTests book k tag = test NoSlot (noSlot book k) ∷ slipTests (slot book k) (slotStart k) tag
+readTests book k tag =
+    -- 17 NO SLOT: slot k (from 0) isn't below book length divided by 1,024, rounded down
+    test NoSlot (noSlot book k)
+    -- 18, 19
+    ∷ slipTests (slot book k) (slotStart k) tag
 
 -- READING a tag of the slip in slot k
 unfoldable pub readSlip : Text → ℕ → ℕ → Answer Part

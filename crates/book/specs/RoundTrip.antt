@@ -1,3 +1,4 @@
+-- A demand is said with this.
 -- THE ROUND TRIP. After a filing, reading a tag of that slot gives the value that was filed, and every other slot reads as before.
 use Prim.Native.Nat.{ℕ}
 use mathlib.Core.Path.{_≡_}

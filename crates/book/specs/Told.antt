@@ -1,3 +1,4 @@
+-- An entry's promise is made of this.
 -- What each case of a reading's answer tells: 01's number and values.
 use Prim.Native.Nat.{ℕ}
 use Rattle.text.specs.Answer.{Answer, refused, given}

@@ -23,7 +23,7 @@ use tags::read_tag;
 use text::Refusal;
 use text::part;
 
-// The value of the field from `at` up to `end` of a slip that begins at `base` of the book: what stands behind its tag and its length.
+// The value of the field from `at` up to `end` of a slip that begins at `base` of the book: what stands after its tag and its length.
 fn value_in(base: usize, at: usize, end: usize) -> Value
     requires { ⌜ (base + at + headSize ≤ largest) × (base + end ≤ largest) ⌝ }
     ensures { λ r. ⌜ r ≡ Part (base + at + headSize) (base + end) ⌝ }

@@ -1,3 +1,5 @@
+pub mod Leaf
 pub mod Stands
 pub mod Filled
 pub mod Cases
+pub mod Separators

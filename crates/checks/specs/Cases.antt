@@ -1,3 +1,4 @@
+-- No entry's promise is made of this: it tries the definitions.
 -- Verdicts and look-ups on short messages, each the shortest that a wrong reading of 01 would answer otherwise.
 use Prim.Native.Nat.{ℕ}
 use Prim.Native.String.{String}

@@ -1,19 +1,18 @@
+-- An entry's promise is made of this.
 -- The checks of a message in the order of the walk. Its fault is the first that is broken; it is accepted where none is.
 use Prim.Native.Nat.{ℕ, suc}
-use mathlib.Core.Path.{_≡_}
 use mathlib.Core.Bool.{Bool, true, false, not, _&&_}
 use mathlib.Core.List.{List, [], _∷_, _++_, flatMap}
 use lib.ListN.{length}
-use lib.Dec.{eqb, ltb}
-use Rattle.text.specs.Bytes.{Text, pick, empty, some, keep, same}
+use lib.Dec.{eqb}
+use Rattle.text.specs.Bytes.{Text, pick, empty, some, keep, same, isOne}
 use Rattle.text.specs.Answer.{Answer, first}
-use Rattle.text.specs.First.{none, First}
 use Rattle.text.specs.declared.marks.Marks.{Marks}
 use Rattle.text.specs.Marks.{marksOf}
 use Rattle.escape.specs.Escape.{badEscape}
-use Rattle.text.specs.Limits.{tooLong}
+use Rattle.text.specs.Limits.{tooLong, _to_, isWithin}
 use Rattle.frame.specs.Frame.{frameTests}
-use Rattle.profile.specs.Table.{Table, Leaf, Usage, O, R, C, ofType, among, mayFollow, mayEnd}
+use Rattle.profile.specs.Table.{Table, Codes, any, only, Leaf, Usage, O, R, C, ofType, mayFollow, mayEnd}
 use Rattle.checks.specs.Place.{Place, place}
 use Rattle.checks.specs.View.{Entry, Repetition, Field, Segment, view}
 
@@ -25,15 +24,20 @@ pub record Check : Type 0 where
 abbrev pub check : Place → ℕ → Bool → Check
 check p n b = record { place = p; reason = n; broken = b }
 
--- A LEAF'S OWN RULE: Empty passes unless it is starred; else too long, bad escape, not of its type, not in its list
+-- a text that is not in its list; a leaf without a list has no such check
+abbrev pub listChecks : Place → Codes → Text → List Check
+listChecks p any t = []
+listChecks p (only codes n) t = check p n (not (empty t) && not (isOne t codes)) ∷ []
+
+-- A LEAF'S OWN RULE: Empty passes unless it is starred; else too long, bad escape, not of its type, not in its list. (No bytes are never too long, and have no
+-- bad escape)
 abbrev pub leafChecks : Marks → Place → Leaf → Text → List Check
 leafChecks q p l t =
     check p 3 (empty t && l .star)
     ∷ check p 5 (tooLong (l .limit) t)
     ∷ check p 6 (badEscape q t)
     ∷ check p 7 (not (empty t) && not (ofType (l .type) t))
-    ∷ check p (l .reason) (not (empty t) && not (among (l .list) t))
-    ∷ []
+    ∷ listChecks p (l .list) t
 
 -- the leaves of a filled repetition, rising
 abbrev pub repetitionChecks : Marks → Text → ℕ → ℕ → Repetition → List Check
@@ -90,19 +94,6 @@ unfoldable pub firstBroken : List Check → Verdict
 firstBroken [] = accepted
 firstBroken (c ∷ cs) = pick (c .broken) (fault (c .place) (c .reason)) (firstBroken cs)
 
--- said as such: none of them is broken; the first broken one has that place and reason
-abbrev pub isBroken : Check → Bool
-isBroken c = c .broken
-
-abbrev pub noneBroken : List Check → Bool
-noneBroken cs = none isBroken cs
-
-pub record FirstBroken (cs : List Check) (p : Place) (n : ℕ) : Type 0 where
-  pub found : Check
-  pub first : First isBroken cs found
-  pub place : found .place ≡ p
-  pub reason : found .reason ≡ n
-
 -- the verdict on a message whose frame is good
 unfoldable pub verdict : Table → Text → Verdict
 verdict T m = firstBroken (checks T m)
@@ -111,8 +102,14 @@ verdict T m = firstBroken (checks T m)
 unfoldable pub judge : Table → Text → Answer Verdict
 judge T m = first (frameTests m) (verdict T m)
 
--- the condition code of a reason
+-- THE CONDITION CODE of a reason: 1, 2 are 100; 3 is 101; 4 to 7 are 102; 8 is 103; 9 to 12 are 200 to 203. Any other number is no reason and has none: 0
 abbrev pub condition : ℕ → ℕ
 condition n =
-    pick (ltb n 3) 100 (pick (eqb n 3) 101 (pick (ltb n 8) 102 (pick (eqb n 8) 103
-    (pick (eqb n 9) 200 (pick (eqb n 10) 201 (pick (eqb n 11) 202 203))))))
+    pick (isWithin (1 to 2) n) 100
+    (pick (eqb n 3) 101
+    (pick (isWithin (4 to 7) n) 102
+    (pick (eqb n 8) 103
+    (pick (eqb n 9) 200
+    (pick (eqb n 10) 201
+    (pick (eqb n 11) 202
+    (pick (eqb n 12) 203 0)))))))

@@ -1,14 +1,17 @@
+-- An entry's promise is made of this.
 -- A place of a message, and the text that stands there.
-use Prim.Native.Nat.{ℕ, _+_}
+use Prim.Native.Nat.{ℕ}
 use mathlib.Core.Bool.{Bool, _&&_}
-use mathlib.Core.List.{List, []}
+use lib.ListN.{length}
+use lib.Dec.{eqb}
 use Rattle.text.specs.Bytes.{Text, pick, empty}
 use Rattle.text.specs.declared.marks.Marks.{Marks}
 use Rattle.text.specs.Marks.{marksOf}
 use Rattle.text.specs.Limits.{_to_, isWithin}
-use Rattle.parts.specs.Descent.{cut, part, partStart, inField, inRepetition}
+use Rattle.parts.specs.Split.{split, Located, whole, nothing}
+use Rattle.parts.specs.Descent.{part, inField}
 use Rattle.frame.specs.Frame.{mostSegments}
-use Rattle.frame.specs.Segments.{isName, occurrence, occurrenceStart, field, fieldStart, unsplit}
+use Rattle.frame.specs.Segments.{isName, occurrenceOf, fieldOf, unsplit}
 
 pub record Place : Type 0 where
   pub name : Text
@@ -39,29 +42,44 @@ isPlace p =
     && isWithin (1 to mostNumber) (p .component)
     && isWithin (1 to mostNumber) (p .subcomponent)
 
--- THE LEAF at field, repetition, component and subcomponent of a segment, and where it starts in the segment
+-- A FIELD TAKEN APART: how many repetitions it has, of no bytes none; and what stands at a repetition, component and subcomponent of it
+pub record Apart : Type 0 where
+  pub repetitions : ℕ
+  pub leaf : ℕ → ℕ → ℕ → Located
+
+-- one leaf, and Empty beyond it
+abbrev pub oneLeaf : Located → Apart
+oneLeaf t = record { repetitions = pick (empty (t .text)) 0 1; leaf = λ r c b. pick (eqb r 1 && eqb c 1 && eqb b 1) t nothing }
+
+-- repetitions, one more than their separators; these are split into components, these into subcomponents
+abbrev pub splitField : Marks → Located → Apart
+splitField q t =
+    record {
+      repetitions = pick (empty (t .text)) 0 (length (split (q .repetition) (t .text)));
+      leaf = λ r c b. part (inField q r c b) t;
+    }
+
+-- MSH-1 and MSH-2 are one leaf each; every other field is split
+unfoldable pub apart : Marks → Located → ℕ → Apart
+apart q s f = pick (unsplit (s .text) f) (oneLeaf (fieldOf q s f)) (splitField q (fieldOf q s f))
+
+-- THE LEAF at field, repetition, component and subcomponent of a segment, with its start; and its bytes
+abbrev pub leafOf : Marks → Located → ℕ → ℕ → ℕ → ℕ → Located
+leafOf q s f r c b = apart q s f .leaf r c b
+
 unfoldable pub leafAt : Marks → Text → ℕ → ℕ → ℕ → ℕ → Text
-leafAt q s f r c b = part (unsplit s f) (inField q r c b) (field q s f)
+leafAt q s f r c b = leafOf q (whole s) f r c b .text
 
-unfoldable pub leafStart : Marks → Text → ℕ → ℕ → ℕ → ℕ → ℕ
-leafStart q s f r c b = fieldStart q s f + partStart (unsplit s f) (inField q r c b) (field q s f)
+-- how many repetitions a field of a segment has
+unfoldable pub repetitions : Marks → Text → ℕ → ℕ
+repetitions q s f = apart q (whole s) f .repetitions
 
--- the repetitions of a field: of no bytes it has none, else one more than its separators
-unfoldable pub repetitions : Marks → Text → ℕ → List Text
-repetitions q s f = pick (empty (field q s f)) [] (cut (unsplit s f) (q .repetition) (field q s f))
+-- THE TEXT at a place of a message, with its start
+unfoldable pub standsAt : Text → Place → Located
+standsAt m p =
+    leafOf (marksOf m) (occurrenceOf m (p .name) (p .occurrence))
+    (p .field) (p .repetition) (p .component) (p .subcomponent)
 
--- a leaf of one of these repetitions
-abbrev pub leafIn : Marks → Bool → Text → ℕ → ℕ → Text
-leafIn q whole t c b = part whole (inRepetition q c b) t
-
--- THE TEXT at a place of a message, and where it starts
+-- its bytes
 unfoldable pub textAt : Text → Place → Text
-textAt m p =
-    leafAt (marksOf m) (occurrence m (p .name) (p .occurrence))
-    (p .field) (p .repetition) (p .component) (p .subcomponent)
-
-unfoldable pub startAt : Text → Place → ℕ
-startAt m p =
-    occurrenceStart m (p .name) (p .occurrence)
-    + leafStart (marksOf m) (occurrence m (p .name) (p .occurrence))
-    (p .field) (p .repetition) (p .component) (p .subcomponent)
+textAt m p = standsAt m p .text

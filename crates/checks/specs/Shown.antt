@@ -1,3 +1,4 @@
+-- An entry's promise is made of this.
 -- What stands at a place: Empty, or Text with its start and end.
 use Prim.Native.Nat.{ℕ, _+_}
 use lib.ListN.{length}

@@ -1,16 +1,16 @@
+-- An entry's promise is made of this.
 -- What judging sees of a message: its listed segments; of each its listed fields; of each of these whether it has too many
 -- repetitions, and the listed leaves of its filled ones.
-use Prim.Native.Nat.{ℕ, suc}
+use Prim.Native.Nat.{ℕ, zero, suc}
 use mathlib.Core.Bool.{Bool, not}
 use mathlib.Core.List.{List, [], _∷_, map}
-use lib.ListN.{length}
 use lib.Dec.{ltb}
 use Rattle.text.specs.Bytes.{Text, pick, empty, some, keep}
 use Rattle.text.specs.declared.marks.Marks.{Marks}
 use Rattle.text.specs.Marks.{marksOf}
-use Rattle.frame.specs.Segments.{segments, name, unsplit}
+use Rattle.frame.specs.Segments.{segments, name}
 use Rattle.profile.specs.Table.{Table, Leaf, Rule, isListed, rulesOf, leavesOf}
-use Rattle.checks.specs.Place.{leafAt, leafIn, repetitions}
+use Rattle.checks.specs.Place.{leafAt, repetitions}
 
 -- a listed leaf, and what stands there
 pub record Entry : Type 0 where
@@ -30,10 +30,10 @@ pub record Segment : Type 0 where
   pub name : Text
   pub fields : List Field
 
--- the listed leaves of a repetition
-abbrev pub entriesOf : Marks → Bool → List Leaf → Text → List Entry
-entriesOf q whole ls t =
-    map (λ (l : Leaf). record { leaf = l; text = leafIn q whole t (l .component) (l .subcomponent) }) ls
+-- the listed leaves of repetition r of field f of a segment
+abbrev pub entriesAt : Marks → Text → ℕ → List Leaf → ℕ → List Entry
+entriesAt q s f ls r =
+    map (λ (l : Leaf). record { leaf = l; text = leafAt q s f r (l .component) (l .subcomponent) }) ls
 
 -- filled: some listed leaf is not Empty
 abbrev pub isFilled : List Entry → Bool
@@ -42,10 +42,10 @@ isFilled es = some (λ (e : Entry). not (empty (e .text))) es
 abbrev pub addFilled : ℕ → List Entry → List Repetition → List Repetition
 addFilled k es rs = pick (isFilled es) (record { number = k; entries = es } ∷ rs) rs
 
--- the filled ones of these repetitions, the first being number k
-unfoldable pub filledFrom : ℕ → (Text → List Entry) → List Text → List Repetition
-filledFrom k read [] = []
-filledFrom k read (t ∷ ts) = addFilled k (read t) (filledFrom (suc k) read ts)
+-- the filled ones of n repetitions, the first being number k
+unfoldable pub filledUpTo : (ℕ → List Entry) → ℕ → ℕ → List Repetition
+filledUpTo read k zero = []
+filledUpTo read k (suc n) = addFilled k (read k) (filledUpTo read (suc k) n)
 
 -- the type that a field of the segment names: the first leaf of its first repetition
 abbrev pub namedIn : Marks → Text → ℕ → Text
@@ -53,11 +53,11 @@ namedIn q s f = leafAt q s f 1 1 1
 
 unfoldable pub fieldSeen : Table → Marks → Text → Rule → Field
 fieldSeen T q s u =
+    let n = repetitions q s (u .field) in
     record {
       rule = u;
-      surplus = ltb (u .repetitions) (length (repetitions q s (u .field)));
-      filled =
-          filledFrom 1 (entriesOf q (unsplit s (u .field)) (leavesOf T (namedIn q s) u)) (repetitions q s (u .field));
+      surplus = ltb (u .repetitions) n;
+      filled = filledUpTo (entriesAt q s (u .field) (leavesOf T (namedIn q s) u)) 1 n;
     }
 
 unfoldable pub segmentSeen : Table → Marks → Text → Segment

@@ -4,18 +4,19 @@ ghost use Rattle.checks.specs.Fault;
 
 pub mod reasons;
 
-// The condition code of a reason.
+// The condition code of a reason; 0 where there is no such reason.
 pub fn condition(reason: u8) -> u16
     ensures { λ r. ⌜ r ≡ Fault.condition reason ⌝ }
 {
     match reason {
-        0..=2 => 100,
+        1 | 2 => 100,
         3 => 101,
         4..=7 => 102,
         8 => 103,
         9 => 200,
         10 => 201,
         11 => 202,
-        _ => 203,
+        12 => 203,
+        _ => 0,
     }
 }

@@ -10,12 +10,11 @@ use lib.Dec.{eqb, leb, ltb}
 use borrow.Author.Tests as tests
 use borrow.Author.Tests.{eqb-true, ltb-true, leb-true, leb-false, eq-eqb, lt-ltb, le-ltb}
 use Rattle.text.specs.Bytes.{Text, pick, every}
-use Rattle.text.specs.Limits.{_to_, isWithin}
 use Rattle.text.proofs.Tests.{both}
 use Rattle.text.proofs.Lists.{and-both, or-either, or-none}
 use Rattle.profile.specs.Table.{Leaf, Table, leavesIn, typeLeaves}
-use Rattle.profile.specs.Numbers.{leafOf, listedOf, componentColumn, fieldColumn, reasonColumn, repetitionsColumn, segmentColumn, subcomponentColumn, typeColumn, firstField, firstNamer}
-use Rattle.profile.specs.Order.{areOf, rankOf, rising, rises, small, isNamed, listsLeaf, fieldFits, namerFits, isProper, sameField, alone, Ordered}
+use Rattle.profile.specs.Numbers.{leafOf, listedOf, componentColumn, fieldColumn, repetitionsColumn, segmentColumn, subcomponentColumn, typeColumn, firstField, firstNamer}
+use Rattle.profile.specs.Order.{areOf, rankOf, rising, rises, small, isNamed, reasonFits, listsLeaf, fieldFits, namerFits, isProper, sameField, alone, Ordered}
 use Rattle.codes.specs.Inner.{Ascends}
 use Rattle.codes.proofs.Stretch.{apart}
 
@@ -27,11 +26,10 @@ pub record Proper (r : List ℕ) : Type 0 where
   pub of-type : 8 ≤ getD r segmentColumn 0 → (getD r fieldColumn 0 ≡ 1) × (getD r typeColumn 0 < 10)
   pub repeats : 1 ≤ getD r repetitionsColumn 0
   pub named : 10 ≤ getD r typeColumn 0 → firstNamer (getD r segmentColumn 0) ≤ getD r typeColumn 0
-  pub leaf : getD r typeColumn 0 < 10 → (1 ≤ getD r componentColumn 0) × (1 ≤ getD r reasonColumn 0) × (getD r reasonColumn 0 ≤ 12)
+  pub leaf : getD r typeColumn 0 < 10 → (1 ≤ getD r componentColumn 0) × (reasonFits (leafOf r .list) ≡ true)
 
-above-leaves : (b : Bool) (n : ℕ) → pick b 13 11 ≤ n → 10 ≤ n
-above-leaves true n h = omega arith
-above-leaves false n h = omega arith
+above-leaves : (k n : ℕ) → firstNamer k ≤ n → 10 ≤ n
+above-leaves k n h = omega arith
 
 module _ (r : List ℕ) where
   unnamed : not (isNamed r) ≡ true → getD r typeColumn 0 < 10
@@ -49,19 +47,15 @@ module _ (r : List ℕ) where
   names-one : namerFits r || listsLeaf r ≡ true → 10 ≤ getD r typeColumn 0 → namer ≤ getD r typeColumn 0
   names-one e l =
       or-either (namerFits r) (listsLeaf r) (λ h. leb-true namer (getD r typeColumn 0) h)
-      (λ h. absurd (omega (arith, unnamed (both (not (isNamed r)) (leb 1 (getD r componentColumn 0)) (both (not (isNamed r) && leb 1 (getD r componentColumn 0)) (isWithin (1 to 12) (getD r reasonColumn 0)) h .0) .0))))
+      (λ h. absurd (omega (arith, unnamed (both (not (isNamed r)) (leb 1 (getD r componentColumn 0)) (both (not (isNamed r) && leb 1 (getD r componentColumn 0)) (reasonFits (leafOf r .list)) h .0) .0))))
       e
 
-  leaf-fits : namerFits r || listsLeaf r ≡ true → getD r typeColumn 0 < 10 → (1 ≤ getD r componentColumn 0) × (1 ≤ getD r reasonColumn 0) × (getD r reasonColumn 0 ≤ 12)
+  leaf-fits : namerFits r || listsLeaf r ≡ true → getD r typeColumn 0 < 10 → (1 ≤ getD r componentColumn 0) × (reasonFits (leafOf r .list) ≡ true)
   leaf-fits e l =
-      or-either (namerFits r) (listsLeaf r) (λ h. absurd (omega (arith, above-leaves (eqb (getD r segmentColumn 0) 1) (getD r typeColumn 0) (leb-true namer (getD r typeColumn 0) h))))
+      or-either (namerFits r) (listsLeaf r) (λ h. absurd (omega (arith, above-leaves (getD r segmentColumn 0) (getD r typeColumn 0) (leb-true namer (getD r typeColumn 0) h))))
       (λ h.
-      let b = both (not (isNamed r) && leb 1 (getD r componentColumn 0)) (isWithin (1 to 12) (getD r reasonColumn 0)) h in
-      let w = both (leb 1 (getD r reasonColumn 0)) (leb (getD r reasonColumn 0) 12) (b .1) in (
-        leb-true 1 (getD r componentColumn 0) (both (not (isNamed r)) (leb 1 (getD r componentColumn 0)) (b .0) .1),
-        leb-true 1 (getD r reasonColumn 0) (w .0),
-        leb-true (getD r reasonColumn 0) 12 (w .1),
-      ))
+      let b = both (not (isNamed r) && leb 1 (getD r componentColumn 0)) (reasonFits (leafOf r .list)) h in
+      (leb-true 1 (getD r componentColumn 0) (both (not (isNamed r)) (leb 1 (getD r componentColumn 0)) (b .0) .1), b .1))
       e
 
   pub proper-row : isProper r ≡ true → Proper r
@@ -191,7 +185,7 @@ pub ascending : (z x : List ℕ) (k : ℕ) (l : List (List ℕ)) → every (λ (
 unfolding every rising
 ascending z x k [] e o p n h =
     let a = proper-row x (both (isProper x) true p .0) .leaf (ltb-true (getD x typeColumn 0) 10 (both (isPlain x) true n .0)) in
-    Ascends.next h (a .1) (a .2) Ascends.nothing
+    Ascends.next h (a .1) Ascends.nothing
 ascending z x k (y ∷ l) e o p n h =
     let f = both (sameField z x) (every (λ (r : List ℕ). sameField z r) (y ∷ l)) e in
     let g = both (sameField z y) (every (λ (r : List ℕ). sameField z r) l) (f .1) in
@@ -202,7 +196,7 @@ ascending z x k (y ∷ l) e o p n h =
     let a = proper-row x (q .0) .leaf (ltb-true (getD x typeColumn 0) 10 (m .0)) in
     let s = of-one z x y (f .0) (g .0) in
     let c = component-rises x y (proper-row x (q .0)) (proper-row y (r .0)) (ltb-true (rankOf x) (rankOf y) (u .0)) (s .0) (s .1) in
-    Ascends.next h (a .1) (a .2) (ascending z y (getD x componentColumn 0) l (f .1) (u .1) (q .1) (m .1) c)
+    Ascends.next h (a .1) (ascending z y (getD x componentColumn 0) l (f .1) (u .1) (q .1) (m .1) c)
 
 -- the rows of a type are of one field, and list leaves
 pub type-field : (k : ℕ) → 8 ≤ k → (l : List (List ℕ)) → areOf k l ≡ true → every isProper l ≡ true → (every (inField 1) l ≡ true) × (every isPlain l ≡ true)

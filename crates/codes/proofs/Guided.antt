@@ -15,7 +15,7 @@ use Rattle.profile.specs.Numbers.{rowSize, fieldColumn, componentColumn, nextCo
 use Rattle.profile.specs.Order.{ofField, leads, takesUpTo, isSure, guides}
 use Rattle.codes.specs.Inner.{SureUpTo, sure}
 
--- of the first row, and of the rows behind some
+-- of the first row, and of the rows after some
 pub guides-first : (at : ℕ) (r : List ℕ) (rs : List (List ℕ)) → guides at (r ∷ rs) ≡ true
     → (getD r nextColumn 0 ≡ at + ofField (getD r fieldColumn 0) (r ∷ rs) * rowSize) × (isSure r rs ≡ true)
 unfolding guides

@@ -12,9 +12,9 @@ use borrow.Author.Tests.{eq-eqb, ne-eqb, eqb-true, eqb-false, lt-ltb, le-ltb}
 use Rattle.text.specs.Bytes.{Text, pick, bytes, some, same, isOne}
 use Rattle.text.proofs.Tests.{same-true, same-self, same-length}
 use Rattle.text.proofs.Lists.{All, and-true}
-use Rattle.profile.specs.Table.{ST, TX, FT, ID, IS, ofType, among}
+use Rattle.profile.specs.Table.{ST, TX, FT, ID, IS, ofType}
 use Rattle.profile.specs.Lists.{oneEach, value-types}
-use Rattle.profile.specs.Numbers.{segmentNames, codeLists, codesOf, simpleOf, numberIn, segmentNumber, typeNumber}
+use Rattle.profile.specs.Numbers.{segmentNames, codeLists, isInList, simpleOf, numberIn, segmentNumber, typeNumber}
 
 -- equality is tested either way round
 eqb-turned : (a b : ℕ) (x : Bool) → eqb a b ≡ x → eqb b a ≡ x
@@ -151,7 +151,7 @@ not-zero n e = omega (arith, e)
 pub above : (k n : ℕ) → k ≤ n → (n ≡ k → ⊥) → suc k ≤ n
 above k n h e = omega (arith, e)
 
-pub beyond-lists : (n : ℕ) (t : Text) → 11 ≤ n → false ≡ among (codesOf n) t
+pub beyond-lists : (n : ℕ) (t : Text) → 11 ≤ n → false ≡ isInList n t
 unfolding some
 beyond-lists zero t h = absurd (omega arith)
 beyond-lists (suc i) t h = rw (List·getD-eq-default codeLists [] {n = i} (omega arith))

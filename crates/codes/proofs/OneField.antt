@@ -1,4 +1,4 @@
--- The rows of the first field among those from one place up to another: the rule that they are, its leaves, and the rows behind them.
+-- The rows of the first field among those from one place up to another: the rule that they are, its leaves, and the rows after them.
 use mathlib.Core.Path.{_≡_, refl, sym, ap, subst, _∙_}
 use Prim.Native.Nat.{ℕ, suc, _+_, _*_, _-_, _/_, _≤_, _<_}
 use native.Mathlib.Nat.{div-mul-le-self}
@@ -198,7 +198,7 @@ module _ (table : List ℕ) (at end e : ℕ) (some : rowSize ≤ end - at) (insi
           sure = field-sure g;
         }
 
-    -- a field behind has a higher number
+    -- a field after has a higher number
     pub field-later : Ordered (rowsWithin at end table) → areOf k (rowsWithin at end table) ≡ true → rowSize ≤ end - e → getD table (at + fieldColumn) 0 < getD table (e + fieldColumn) 0
     unfolding every
     field-later o a more =

@@ -32,7 +32,7 @@ unfolding rowsFrom
 rows-length zero table = refl
 rows-length (suc n) table = ap suc (rows-length n (drop rowSize table))
 
--- some rows, and those behind them
+-- some rows, and those after them
 pub rows-append : (m n : ℕ) (table : List ℕ) → rowsFrom (m + n) table ≡ rowsFrom m table ++ rowsFrom n (drop (m * rowSize) table)
 unfolding rowsFrom
 rows-append zero n table =

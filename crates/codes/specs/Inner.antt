@@ -1,3 +1,4 @@
+-- Inner: no entry's promise is made of this.
 -- What only inner functions promise and ask for: the rows of a lent table, told from where a reader stands.
 use Prim.Native.Nat.{ℕ, _+_, _≤_}
 use mathlib.Core.Path.{_≡_}
@@ -7,17 +8,17 @@ use lib.ListN.{length, getD, drop}
 use Rattle.text.specs.Bytes.{Text, every}
 use Rattle.profile.specs.Table.{Leaf, Rule, typeLeaves}
 use Rattle.profile.specs.Numbers.{rowSize, segmentColumn, fieldColumn, usageColumn, repetitionsColumn, sureColumn, leafOf, listedOf, usageOf, rowsWithin, under, tableOf}
-use Rattle.profile.specs.Order.{sameField, areOf, Ordered, guides, takesUpTo}
+use Rattle.profile.specs.Order.{reasonFits, sameField, areOf, Ordered, guides, takesUpTo}
 use Rattle.codes.specs.declared.rows.Rows.{Rows}
 
 -- the leaves that rows list
 abbrev pub leavesAt : List ℕ → Rows → List Leaf
 leavesAt table r = map leafOf (rowsWithin (r .start) (r .end) table)
 
--- leaves whose components rise from k on, each with a reason from 1 to 12
+-- leaves whose components rise from k on, each with a reason from 1 to 12 where it has a list
 pub data Ascends : ℕ → List Leaf → Type 0 where
   nothing : {k : ℕ} → Ascends k []
-  next : {k : ℕ} {l : Leaf} {ls : List Leaf} → k ≤ l .component → 1 ≤ l .reason → l .reason ≤ 12 → Ascends (l .component) ls → Ascends k (l ∷ ls)
+  next : {k : ℕ} {l : Leaf} {ls : List Leaf} → k ≤ l .component → reasonFits (l .list) ≡ true → Ascends (l .component) ls → Ascends k (l ∷ ls)
 
 -- texts of up to n bytes will do at each of these leaves, of which the first is of component 1
 pub data SureUpTo : ℕ → List Leaf → Type 0 where

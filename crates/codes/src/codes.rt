@@ -2,9 +2,9 @@
 ghost use mathlib.Core.Path.{_≡_};
 ghost use mathlib.Core.List.{[], _∷_};
 ghost use Rattle.text.specs.Bytes.{isOne};
-ghost use Rattle.profile.specs.Table.{ofType, among};
+ghost use Rattle.profile.specs.Table.{ofType};
 ghost use Rattle.profile.specs.Lists.{oneEach};
-ghost use Rattle.profile.specs.Numbers.{simpleOf, codesOf, segmentNumber, typeNumber};
+ghost use Rattle.profile.specs.Numbers.{simpleOf, isInList, segmentNumber, typeNumber};
 use profile::numbers;
 use text::is_same;
 use types::is_dtm;
@@ -85,7 +85,7 @@ pub fn type_number(s: &[u8]) -> u16
 
 // Whether a text is in the list with that number; list 0 takes any text.
 pub fn is_in_list(n: u16, s: &[u8]) -> bool
-    ensures { λ r. ⌜ r ≡ among (codesOf n) (now (s .entry)) ⌝ }
+    ensures { λ r. ⌜ r ≡ isInList n (now (s .entry)) ⌝ }
 {
     match n {
         numbers::ANY => true,

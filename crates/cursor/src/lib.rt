@@ -2,7 +2,7 @@
 ghost use mathlib.Core.Path.{_≡_};
 ghost use Prim.Native.Nat.{_+_, _≤_};
 ghost use lib.ListN.{length, drop};
-ghost use Rattle.parts.specs.Split.{reach};
+ghost use Rattle.parts.specs.Start.{reach};
 ghost use Rattle.cursor.specs.Cursor.{IsPiece};
 use parts::near_end;
 use parts::piece_end;

@@ -1,3 +1,4 @@
+-- Inner: no entry's promise is made of this.
 -- What stands of a text from a piece on, and of a segment from a field on. Only inner functions promise it.
 use mathlib.Core.Path.{_≡_}
 use Prim.Native.Nat.{ℕ, _+_}
@@ -7,10 +8,11 @@ use lib.ListN.{getD}
 use Rattle.text.specs.Bytes.{Text}
 use Rattle.text.specs.declared.marks.Marks.{Marks}
 use Rattle.parts.specs.Split.{split, piece}
-use Rattle.parts.specs.Descent.{part, inRepetition}
+use Rattle.parts.specs.Descent.{inRepetition}
+use Rattle.parts.specs.Span.{partText}
 use Rattle.frame.specs.Segments.{field}
 
--- r is what stands of t behind n separators
+-- r is what stands of t after n separators
 abbrev pub Behind : ℕ → ℕ → Text → Text → Type 0
 Behind sep n t r = (i : ℕ) → getD (split sep r) i [] ≡ getD (split sep t) (n + i) []
 
@@ -23,4 +25,4 @@ abbrev pub firstRepetition : Marks → Text → Text
 firstRepetition q t = piece 1 (split (q .repetition) (piece 1 (split (q .field) t)))
 
 abbrev pub firstLeaf : Marks → Text → Text
-firstLeaf q t = part false (inRepetition q 1 1) t
+firstLeaf q t = partText (inRepetition q 1 1) t

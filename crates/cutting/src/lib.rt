@@ -22,7 +22,7 @@ fn first_piece<'a>(t: &'a [u8], sep: u8) -> &'a [u8]
     &t[0..end]
 }
 
-// What stands behind so many separators: no bytes where there are fewer.
+// What stands after so many separators: no bytes where there are fewer.
 pub fn behind<'a>(t: &'a [u8], sep: u8, n: u64) -> &'a [u8]
     ensures { λ r. ⌜ Behind sep n (now (t .entry)) (now r) ⌝ }
 {

@@ -13,7 +13,8 @@ use Rattle.text.proofs.Tests as tests
 use Rattle.text.proofs.Lists.{All, every-all, or-either}
 use Rattle.frame.specs.Segments.{segments, name, named, ofName}
 use Rattle.profile.specs.Table.{Succession, isListed, mayFollow}
-use Rattle.profile.specs.Rows.{rows}
+use Rattle.profile.specs.Noted.{noted}
+use Rattle.profile.specs.Fields.{rows}
 use Rattle.profile.specs.Profile.{profile01}
 use Rattle.reader.specs.View.{segmentSeen, view}
 use Rattle.reader.specs.Fault.{Check, fieldChecks, count, walk, checks}
@@ -36,7 +37,7 @@ groupsOf ss zero = 0
 groupsOf ss (suc n) = observationsFrom ss n + groupsOf ss n
 
 module _ (s : Text) (ss : List Text) where
-  -- an OBR opens a group; any other segment leaves the groups behind it as they are
+  -- an OBR opens a group; any other segment leaves the groups after it as they are
   order-opens : named order s ≡ true → (n : ℕ) → groupsOf (s ∷ ss) (suc n) ≡ observations ss + groupsOf ss n
   unfolding groupsOf observationsFrom
   order-opens e zero = rw e
@@ -94,7 +95,7 @@ opening = map bytes ("" ∷ "MSH" ∷ "PID" ∷ "NK1" ∷ "ORC" ∷ [])
 abbrev leadsOn : Succession → Bool
 leadsOn s = not (isOne (s .segment) opening) || every (λ n. isOne n (order ∷ opening)) (s .then)
 
--- behind each of them comes one of them, or OBR: the whole succession, tested once
+-- after each of them comes one of them, or OBR: the whole succession, tested once
 leads-on : All (λ s. leadsOn s ≡ true) (profile01 .succession)
 unfolding profile01 every some same
 leads-on = every-all leadsOn (profile01 .succession) refl
@@ -108,7 +109,7 @@ next-opening last n o e =
     rw (tests.same-true n (g .0) (g .1 .1)) (g .1 .0)
 
 observation-listed : isListed profile01 observation ≡ true
-unfolding some same profile01 rows
+unfolding flatMap some same profile01 noted rows
 observation-listed = refl
 
 observation-later : isOne observation opening ≡ false
@@ -126,7 +127,7 @@ module _ (q : Marks) where
   abbrev walkOn : List Text → Text → List Text → List Check
   walkOn ns last ss = walk profile01 q ns last (map (segmentSeen profile01 q) ss)
 
-  -- a walk with no broken check: its first segment may stand there, and the walk behind it has none
+  -- a walk with no broken check: its first segment may stand there, and the walk after it has none
   walk-first : (ns : List Text) (last s : Text) (ss : List Text) → Unbroken (walkOn ns last (s ∷ ss))
       → (mayFollow profile01 last (name s) ≡ true) × Unbroken (walkOn (name s ∷ ns) (name s) ss)
   unfolding walk segmentSeen

@@ -27,10 +27,11 @@ use Rattle.reader.specs.declared.Fault as code-fault
 use Rattle.reader.specs.declared.Verdict.{Verdict}
 use Rattle.reader.specs.declared.Verdict.the-variants.{Refused, Accepted, Fault}
 use Rattle.reader.specs.declared.search.LookedUp.{LookedUp}
-use Rattle.reader.specs.Place.{Place, textAt, startAt}
+use Rattle.reader.specs.Place.{Place, standsAt, textAt}
 use Rattle.reader.specs.LookUp.{Empty, Text-from-to, found, lookUpTests, lookUp}
 use Rattle.reader.specs.Told.{placeOf, foundOf}
-use Rattle.reader.specs.Fault.{checks, noneBroken, fault, verdict, judge}
+use Rattle.reader.specs.Fault.{checks, fault, verdict, judge}
+use Rattle.reader.specs.First.{noneBroken}
 use Rattle.reader.specs.Promise.{LooksUp, Judges}
 use Rattle.reader.proofs.LookUp.{shown-step, shown-empty}
 use Rattle.reader.proofs.Part.{looked-up-text}
@@ -68,16 +69,16 @@ reason m f h =
 
 -- 2. Looking up
 -- where a text is found, it starts there, and some byte stands there; where Empty is, none
-found-some : (m : Text) (p : Place) (a e : ℕ) → given (Text-from-to a e) ≡ lookUp m p → (a ≡ startAt m p) × ((e ≡ startAt m p + length (textAt m p)) × (empty (textAt m p) ≡ false))
-unfolding lookUp
+found-some : (m : Text) (p : Place) (a e : ℕ) → given (Text-from-to a e) ≡ lookUp m p → (a ≡ standsAt m p .start) × ((e ≡ a + length (textAt m p)) × (empty (textAt m p) ≡ false))
+unfolding lookUp textAt
 found-some m p a e h =
-    let t = textAt m p in
-    let w = shown-step (startAt m p) a e t (first-asked (lookUpTests m p) (found m p) (Text-from-to a e) h) in
-    (w .0, (w .1 .0, empty-some t (λ z. omega (arith, w .1 .1, z))))
+    let w = shown-step (standsAt m p .start) a e (standsAt m p .text) (first-asked (lookUpTests m p) (found m p) (Text-from-to a e) h) in
+    (w .0, (omega (arith, w), empty-some (standsAt m p .text) (λ z. omega (arith, w .1 .1, z))))
 
 found-none : (m : Text) (p : Place) → given Empty ≡ lookUp m p → textAt m p ≡ []
-unfolding lookUp
-found-none m p h = shown-empty (startAt m p) (textAt m p) (first-asked (lookUpTests m p) (found m p) Empty h)
+unfolding lookUp textAt
+found-none m p h =
+    shown-empty (standsAt m p .start) (standsAt m p .text) (first-asked (lookUpTests m p) (found m p) Empty h)
 
 module _ (m : RefT Text) (p : code.Place) (r : LookedUp) (l : LooksUp m p r) where
   sort-told : (f : code-found.Found) → r .sort ≡ f → foundOf f ≡ lookUp (m .now) (placeOf p)

@@ -9,7 +9,8 @@ use Rattle.text.specs.Answer.{given, first}
 use Rattle.text.proofs.Tests.{same-true}
 use Rattle.profile.specs.Profile.{profile01}
 use Rattle.reader.specs.declared.Verdict.the-variants.{Accepted}
-use Rattle.reader.specs.Fault.{accepted, judge}
+use Rattle.reader.specs.Place.{Place, place}
+use Rattle.reader.specs.Fault.{accepted, fault, judge}
 use Rattle.reader.specs.Told.{verdictOf}
 use Rattle.reader.proofs.Unique.{verdict-same}
 use Rattle.slip.specs.declared.Filed.{Filed}
@@ -40,9 +41,15 @@ P1-accepted : judge profile01 P1 ≡ given accepted
 unfolding computing
 P1-accepted = refl
 
-P2-faulty : judge profile01 P2 ≡ given accepted → ⊥
+P2-fault : judge profile01 P2 ≡ given (fault (place (bytes "OBX") 1 5 1 1 1) 7)
 unfolding computing
-P2-faulty e = let z : _≡_ {A = ℕ} 0 1 = cc in omega arith
+P2-fault = refl
+
+not-accepted : (p : Place) (n : ℕ) → given (fault p n) ≡ given accepted → ⊥
+not-accepted p n e = let z : _≡_ {A = ℕ} 0 1 = cc in omega arith
+
+P2-faulty : judge profile01 P2 ≡ given accepted → ⊥
+P2-faulty e = not-accepted (place (bytes "OBX") 1 5 1 1 1) 7 (sym P2-fault ∙ e)
 
 twoOrders-accepted : judge profile01 twoOrders ≡ given accepted
 unfolding computing

@@ -14,13 +14,13 @@ use Rattle.frame.specs.Segments.{segments, name, isName}
 use Rattle.frame.specs.Frame.{opens, isSegment, framed}
 use Rattle.frame.proofs.Frame.{framed-tests}
 use Rattle.frame.proofs.Names.{three}
-use Rattle.profile.specs.Table.{Table, isListed}
+use Rattle.profile.specs.Table.{Table, Codes, any, only, isListed}
 use Rattle.profile.specs.Profile.{profile01}
 use Rattle.reader.specs.declared.Place as code-place
 use Rattle.reader.specs.declared.Verdict as code-verdict
 use Rattle.reader.specs.Place.{Place, place}
 use Rattle.reader.specs.View.{Entry, Repetition, Field, Segment, segmentSeen, view}
-use Rattle.reader.specs.Fault.{Check, leafChecks, repetitionChecks, fieldChecks, count, walk, checks, Verdict, accepted, fault, judge}
+use Rattle.reader.specs.Fault.{Check, listChecks, leafChecks, repetitionChecks, fieldChecks, count, walk, checks, Verdict, accepted, fault, judge}
 use Rattle.reader.specs.Told.{placeOf, verdictOf}
 use Rattle.reader.specs.Promise.{Judges}
 use Rattle.reader.proofs.Accepted.{judged-fault}
@@ -36,12 +36,19 @@ abbrev Named : Check → Type 0
 Named c = isName (c .place .name) ≡ true
 
 -- 1. The checks of a segment are at places of its own name
+list-named : (p : Place) → isName (p .name) ≡ true → (c : Codes) (t : Text) → All Named (listChecks p c t)
+list-named p ok any t = tt
+list-named p ok (only codes k) t = (ok, tt)
+
 module _ (q : Marks) (n : Text) (o : ℕ) (ok : isName n ≡ true) where
   repetition-named : (f : ℕ) (r : Repetition) → All Named (repetitionChecks q n o f r)
   repetition-named f r =
       all-flatMap Named
       (λ (e : Entry). leafChecks q (place n o f (r .number) (e .leaf .component) (e .leaf .subcomponent)) (e .leaf) (e .text))
-      (r .entries) (all-of _ (λ e. (ok, (ok, (ok, (ok, (ok, tt)))))) (r .entries))
+      (r .entries)
+      (all-of _
+      (λ e. (ok, (ok, (ok, (ok, list-named (place n o f (r .number) (e .leaf .component) (e .leaf .subcomponent)) ok (e .leaf .list) (e .text))))))
+      (r .entries))
 
   field-named : (vs : List Field) (v : Field) → All Named (fieldChecks q n o vs v)
   field-named vs v =

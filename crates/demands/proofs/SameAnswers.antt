@@ -19,10 +19,11 @@ use Rattle.text.proofs.Answer.{first-passed, first-given, tell-first}
 use Rattle.frame.specs.Segments.{segments, name, named, ofName, occurrence}
 use Rattle.frame.specs.Frame.{frameTests, framed}
 use Rattle.profile.specs.Table.{Table, Row, isListed}
-use Rattle.reader.specs.Place.{Place, place, isPlace, textAt, startAt}
+use Rattle.reader.specs.Place.{Place, place, isPlace, textAt}
+use Rattle.reader.specs.Starts.{startAt}
 use Rattle.reader.specs.LookUp.{Empty, Text-from-to, found, tooFew, lookUpTests, lookUp}
 use Rattle.reader.specs.Fault.{checks, verdict, judge}
-use Rattle.reader.proofs.Stands.{text-stands}
+use Rattle.reader.proofs.Stands.{text-stands, found-is}
 use Rattle.reply.specs.Header.{headerLeaf, copiedHD}
 use Rattle.reply.specs.Reply.{replyText, reply}
 use Rattle.reader.specs.Observations.{observations, observationsFrom, observationsOf}
@@ -30,7 +31,7 @@ use Rattle.slip.specs.Slip.{slipText}
 use Rattle.slip.specs.Book.{file}
 use Rattle.striking.specs.Strike.{isListedPlace, strikeSegment, strike}
 use Rattle.profile.specs.Fit.{listsComponent, hasRow, fit, Copied, copied, copies, hasCopies}
-use Rattle.demands.specs.Demand3.{Shown, shownFound, lookUpShown}
+use Rattle.demands.specs.Demand3.{ByBytes, shownFound, lookUpShown}
 use Rattle.striking.proofs.Kept.{name-struck}
 use Rattle.striking.proofs.Seen.{has-row}
 use Rattle.striking.proofs.Message.{L, strikes, segments-struck, view-same, frame-struck, marks-struck}
@@ -101,14 +102,14 @@ member P d (x ∷ l) a (suc i) h = member P d l (a .1) i (le-of-suc-le-suc h)
 
 -- 3. A look-up's text by its bytes
 shown-by : (m t : Text) (a : ℕ) (b : Bool) → take (length t) (drop a m) ≡ t
-    → shownFound m (pick b Empty (Text-from-to a (a + length t))) ≡ pick b Shown.Empty (Shown.Bytes t)
+    → shownFound m (pick b Empty (Text-from-to a (a + length t))) ≡ pick b ByBytes.Empty (ByBytes.Bytes t)
 shown-by m t a true h = refl
 shown-by m t a false h =
     let e : a + length t - a ≡ length t = omega arith in
     rw (e, h)
 
-shown-text : (m : Text) (p : Place) → shownFound m (found m p) ≡ pick (empty (textAt m p)) Shown.Empty (Shown.Bytes (textAt m p))
-shown-text m p = shown-by m (textAt m p) (startAt m p) (empty (textAt m p)) (text-stands m p)
+shown-text : (m : Text) (p : Place) → shownFound m (found m p) ≡ pick (empty (textAt m p)) ByBytes.Empty (ByBytes.Bytes (textAt m p))
+shown-text m p = ap (shownFound m) (found-is m p) ∙ shown-by m (textAt m p) (startAt m p) (empty (textAt m p)) (text-stands m p)
 
 -- 4. The answers
 module _ (T : Table) (ok : fit T ≡ true) (cs : hasCopies T ≡ true) (m : Text) (good : framed m ≡ true) where

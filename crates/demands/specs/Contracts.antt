@@ -1,3 +1,4 @@
+-- No entry's promise is made of this: it ties the promises that the demands are about to the code.
 -- WHAT THE DEMANDS ARE ABOUT, of the two entries that hand out a part of what they were lent. (The crate `called` has the other four.) Nothing is asked of
 -- the caller, and this is promised: the definition's answer, and that very part of the lent message or book.
 use Prim.Native.Nat.{ℕ}

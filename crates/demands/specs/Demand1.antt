@@ -1,9 +1,10 @@
+-- A demand is said with this.
 -- DEMAND 1: ANSWERED, ENDED, UNTOUCHED. The user must be certain that every message and every call gets an answer and ends; that a
 -- refusal carries the first number that applies in 01's order, and leaves the slip book or the reply buffer byte for byte as it was;
 -- and that a filed slip changes its own slot and nothing else.
 --
 -- An entry is proved for any input, with nothing asked of its caller: it ends, and what it answers and leaves is what it promises
--- (the crate `called` has the six entries with these promises). Here stands what the promises come to, entry by
+-- (`called/src/lib.rt` calls four of the six entries under these promises, Contracts.antt has the other two). Here stands what the promises come to, entry by
 -- entry: there is one answer and only one, its refusals come in 01's order, and a refusal leaves what was lent.
 use mathlib.Core.Path.{_≡_}
 use mathlib.Core.Logic.{_⊎_}

@@ -1,8 +1,9 @@
+-- A demand is said with this.
 -- DEMAND 2: RIGHT. The user must be certain that a message is accepted exactly when it has no fault, and that otherwise the answer is
 -- its first fault, with place and reason; that replies and slips have exactly the bytes that 01 lays down; and that a slip read back
 -- gives the values filed.
 --
--- The checks of a message, in the order of 01's walk, are `checks` (reader); the bytes of a reply are `replyText` (reply), those of a slip
+-- The checks of a message, in the order of 01's walk, are `checks` (checks/specs/Fault.antt); the bytes of a reply are `replyText` (reply), those of a slip
 -- `slipText` (slip). Here stands what the entries' promises say of them.
 use mathlib.Core.Path.{_≡_}
 use Prim.Native.Nat.{ℕ, _+_, _≤_}
@@ -24,8 +25,9 @@ use Rattle.reader.specs.declared.Found.the-variants as found
 use Rattle.reader.specs.declared.Verdict.{Verdict}
 use Rattle.reader.specs.declared.Verdict.the-variants.{Accepted, Fault}
 use Rattle.reader.specs.declared.search.LookedUp.{LookedUp}
-use Rattle.reader.specs.Place.{Place, textAt, startAt}
-use Rattle.reader.specs.Fault.{checks, noneBroken, FirstBroken, condition}
+use Rattle.reader.specs.Place.{Place, standsAt, textAt}
+use Rattle.reader.specs.Fault.{checks, condition}
+use Rattle.reader.specs.First.{noneBroken, FirstBroken}
 use Rattle.reader.specs.Told.{placeOf}
 use Rattle.text.specs.Part.{VeryPart}
 use Rattle.reader.specs.Promise.{LooksUp, Judges}
@@ -53,8 +55,8 @@ pub record Wrote (t before after : Text) (n : ℕ) : Type 0 where
 -- A TEXT AT A PLACE of the lent message: it starts and ends where the text there does, has its bytes, at least one, and is that very
 -- part of the message's memory
 pub record Stands (m : RefT Text) (p : Place) (a e : ℕ) (part : RefT Text) : Type 0 where
-  pub start : a ≡ startAt (m .now) p
-  pub end : e ≡ startAt (m .now) p + length (textAt (m .now) p)
+  pub start : a ≡ standsAt (m .now) p .start
+  pub end : e ≡ a + length (textAt (m .now) p)
   pub bytes : part .now ≡ textAt (m .now) p
   pub not-empty : empty (part .now) ≡ false
   pub very-part : VeryPart part m a e

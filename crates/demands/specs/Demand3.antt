@@ -1,3 +1,4 @@
+-- A demand is said with this.
 -- DEMAND 3: A NEWER SENDER'S ADDITIONS ALTER NOTHING. Of a message that passes the eight frame checks everything that the table does not list is
 -- struck out (`strike`). The user must be certain that what the definition of demand 2 gives for the struck message is what we
 -- give for the message as it came: the verdict with its place and reason, the look-up answer at each listed place (of a text its bytes), the
@@ -29,24 +30,24 @@ use Rattle.profile.specs.Fit.{fit, hasCopies}
 use Rattle.striking.specs.Striking.{NotEmpty}
 
 -- a look-up's answer by its bytes, since striking moves the starts
-pub data Shown : Type 0 where
-  Empty : Shown
-  Bytes : Text → Shown
+pub data ByBytes : Type 0 where
+  Empty : ByBytes
+  Bytes : Text → ByBytes
 
--- shown so: what the definition finds, and what the entry hands back
-abbrev pub shownFound : Text → Found → Shown
+-- so: what the definition finds, and what the entry hands back
+abbrev pub shownFound : Text → Found → ByBytes
 shownFound m Found.Empty = Empty
 shownFound m (Text-from-to a e) = Bytes (within a e m)
 
-abbrev pub lookUpShown : Text → Place → Answer Shown
+abbrev pub lookUpShown : Text → Place → Answer ByBytes
 lookUpShown m p = tell (shownFound m) (lookUp m p)
 
-abbrev pub shownBy : code-found.Found → Text → Answer Shown
+abbrev pub shownBy : code-found.Found → Text → Answer ByBytes
 shownBy (code-found.the-variants.Refused r) t = refused r
 shownBy code-found.the-variants.Empty t = given Empty
 shownBy (code-found.the-variants.Text a e) t = given (Bytes t)
 
-abbrev pub handedShown : LookedUp → Answer Shown
+abbrev pub handedShown : LookedUp → Answer ByBytes
 handedShown r = shownBy (r .sort) (r .text .now)
 
 -- THE SAME ANSWERS: what a call gives for the message as it came is what is promised for the struck one, and the two calls give and leave the same

@@ -1,3 +1,4 @@
+-- A demand is said with this.
 -- THE FIVE IDLE BUILDS that 01 names, each at odds with one statement about what the entries promise.
 use mathlib.Core.Path.{_≡_}
 use Prim.Native.Nat.{ℕ, zero, suc, _+_, _≤_}
@@ -42,6 +43,7 @@ secondSlip =
     (1 ∷ 0 ∷ 2 ∷ bytes "C7") ++ (2 ∷ 0 ∷ 3 ∷ bytes "A55") ++ (3 ∷ 0 ∷ 3 ∷ bytes "P&1") ++ (4 ∷ 0 ∷ 3 ∷ bytes "F10")
     ++ (5 ∷ 0 ∷ 7 ∷ bytes "54090-6") ++ (6 ∷ 0 ∷ 2 ∷ 0 ∷ 1 ∷ replicate 986 0)
 
+-- each part has the name of the build that it shuts out
 pub record ShutOut : Type 0 where
   -- REFUSES ALL MESSAGES: P1 is accepted
   pub refuses-all : (r : Verdict) → Judges profile01 P1 r → r ≡ Accepted

@@ -1,3 +1,4 @@
+-- A demand is said with these.
 pub use Rattle.striking.specs.Strike
 pub use Rattle.profile.specs.Fit
 pub use Rattle.striking.specs.Striking

@@ -1,20 +1,20 @@
--- Laws of escapes: what a reader finds at the end, at a byte that is no \, and at a \.
+-- Laws of escapes: what a reader from the left finds at the end, at a byte that is no \, and at a \.
 use mathlib.Core.Path.{_≡_, refl, sym, ap, _∙_}
-use Prim.Native.Nat.{ℕ, suc, _+_, _-_, _≤_, _<_}
+use Prim.Native.Nat.{ℕ, zero, suc, _+_, _-_, _≤_, _<_}
 use native.Mathlib.Numerals.{add-one}
 use native.Mathlib.Omega.{arith}
-use mathlib.Core.Bool.{Bool, true, false, _&&_, _||_}
+use mathlib.Core.Bool.{Bool, true, false, not, _&&_, _||_}
 use mathlib.Core.List.{[], _∷_, _++_, append-assoc}
-use lib.ListN.{length, getD, take, drop, set, length-drop, length-set, drop-of-length-le, take-append-drop}
+use lib.ListN.{length, getD, take, drop, set, length-drop, length-set, length-map, drop-of-length-le, take-append-drop}
 use lib.Seq.{drop-cons, drop-drop, getD-drop, take-suc-set, drop-set-lt, append-snoc}
 use lib.Dec.{eqb, ltb}
 use borrow.Author.Tests.{eq-eqb, ne-eqb, lt-ltb, le-ltb}
 use borrow.Author.Tests.{not-true as not-taken}
-use Rattle.text.specs.Bytes.{Text, pick, byte, every}
+use Rattle.text.specs.Bytes.{Text, pick, byte, same, every, some}
 use Rattle.text.specs.Answer.{Answer, refused, given, test, first, bufferAfter, reported, writtenOf}
 use Rattle.text.specs.Marks.{usual}
-use Rattle.escape.specs.Escape.{Stand, outside, begun, meaning, wrong, letter, next, isOutside, endsOutside, badEscape, adding, resolvedFrom, resolved, resolve}
-use Rattle.escape.specs.Step.{isOther, isLetter, meant, isEscape}
+use Rattle.escape.specs.Escape.{five, isEscape, standsFor, stops, badEscape, resolved, resolve}
+use Rattle.escape.specs.Step.{isOther, isLetter, meant}
 use Rattle.escape.specs.Promise.{Resolves}
 use Rattle.text.specs.Puts.{Puts}
 use Rattle.text.specs.declared.marks.Marks.{Marks}
@@ -22,172 +22,193 @@ use Rattle.text.specs.declared.refusal.Refusal.the-variants.{NoRoom, BadEscape}
 use Rattle.text.specs.declared.Written.{Written}
 use Rattle.text.specs.declared.Written.the-variants.{Refused, Bytes}
 use Rattle.text.proofs.Tests.{not-true, both}
+use Rattle.text.proofs.Lists.{or-false, and-true}
 use Rattle.text.proofs.Puts.{puts-front-room, puts-front-ends, puts-front}
 
--- the letters one after the other, and whether it is one of them
-letter-step : (f s t r e : Bool) (a b c d x : ℕ)
-    → pick f (meaning a) (pick s (meaning b) (pick t (meaning c) (pick r (meaning d) (pick e (meaning x) wrong))))
-    ≡ pick (f || (s || (t || (r || e)))) (meaning (pick f a (pick s b (pick t c (pick r d x))))) wrong
-letter-step true s t r e a b c d x = refl
-letter-step false true t r e a b c d x = refl
-letter-step false false true r e a b c d x = refl
-letter-step false false false true e a b c d x = refl
-letter-step false false false false true a b c d x = refl
-letter-step false false false false false a b c d x = refl
+or-and : (a b x : Bool) → (a && x) || (b && x) ≡ (a || b) && x
+or-and true b true = refl
+or-and true true false = refl
+or-and true false false = refl
+or-and false b x = refl
 
-letter-means : (q : Marks) (b : ℕ) → letter q b ≡ pick (isLetter b) (meaning (meant q b)) wrong
-letter-means q b =
-    letter-step (eqb b (byte "F")) (eqb b (byte "S")) (eqb b (byte "T")) (eqb b (byte "R")) (eqb b (byte "E")) (q .field) (q .component) (q .subcomponent)
-    (q .repetition)
-    (q .escape)
+and-false : (b : Bool) → b && false ≡ false
+and-false true = refl
+and-false false = refl
+
+-- 1. What begins at the front of a text: a \, one of five letters, and a second \
+escape-step : (x f s t r e y : Bool)
+    → (x && (f && y)) || ((x && (s && y)) || ((x && (t && y)) || ((x && (r && y)) || ((x && (e && y)) || false))))
+    ≡ x && ((f || (s || (t || (r || e)))) && y)
+escape-step true f s t r e y =
+    rw (or-false (e && y), or-and r e y, or-and t (r || e) y, or-and s (t || (r || e)) y, or-and f (s || (t || (r || e))) y)
+escape-step false f s t r e y = refl
+
+stands-step : (f s t r e : Bool) (a b c d x z : ℕ) → f || (s || (t || (r || e))) ≡ true
+    → pick (f && true) a (pick (s && true) b (pick (t && true) c (pick (r && true) d (pick (e && true) x z))))
+    ≡ pick f a (pick s b (pick t c (pick r d x)))
+stands-step true s t r e a b c d x z h = refl
+stands-step false true t r e a b c d x z h = refl
+stands-step false false true r e a b c d x z h = refl
+stands-step false false false true e a b c d x z h = refl
+stands-step false false false false true a b c d x z h = refl
+stands-step false false false false false a b c d x z h = not-true h
 
 module _ (q : Marks) where
-  -- a text with no \ ends outside
-  pub free-ends : (t : Text) → every (isOther (q .escape)) t ≡ true → endsOutside q outside t ≡ true
-  unfolding endsOutside every
-  free-ends [] e = refl
-  free-ends (b ∷ t) e =
+  escape-front : (b c d : ℕ) (t : Text) → isEscape q (b ∷ c ∷ d ∷ t) ≡ eqb b (q .escape) && (isLetter c && eqb d (q .escape))
+  unfolding isEscape some same
+  escape-front b c d t =
+      rw (and-true (eqb d (q .escape)))
+      (escape-step (eqb b (q .escape)) (eqb c (byte "F")) (eqb c (byte "S")) (eqb c (byte "T")) (eqb c (byte "R")) (eqb c (byte "E")) (eqb d (q .escape)))
+
+  escape-few : (t : Text) → length t < 3 → isEscape q t ≡ false
+  unfolding isEscape some same
+  escape-few [] h = refl
+  escape-few (b ∷ []) h = simp and-false
+  escape-few (b ∷ c ∷ []) h = simp and-false
+  escape-few (b ∷ c ∷ d ∷ t) h = absurd (omega arith)
+
+  escape-stands : (b c d : ℕ) (t : Text) → isEscape q (b ∷ c ∷ d ∷ t) ≡ true → standsFor q (five q) (b ∷ c ∷ d ∷ t) ≡ meant q c
+  unfolding standsFor same
+  escape-stands b c d t e =
+      let h = both (eqb b (q .escape)) (isLetter c && eqb d (q .escape)) (sym (escape-front b c d t) ∙ e) in
+      let k = both (isLetter c) (eqb d (q .escape)) (h .1) in
+      rw (h .0, k .1)
+      (stands-step (eqb c (byte "F")) (eqb c (byte "S")) (eqb c (byte "T")) (eqb c (byte "R")) (eqb c (byte "E")) (q .field) (q .component) (q .subcomponent)
+      (q .repetition)
+      (q .escape)
+      b
+      (k .0))
+
+  -- a byte that is no \ begins none, and stands for itself
+  byte-none : (b : ℕ) (t : Text) → eqb b (q .escape) ≡ false → isEscape q (b ∷ t) ≡ false
+  unfolding isEscape some same
+  byte-none b t h = rw h
+
+  byte-stands : (b : ℕ) (t : Text) → eqb b (q .escape) ≡ false → standsFor q (five q) (b ∷ t) ≡ b
+  unfolding standsFor same
+  byte-stands b t h = rw h
+
+  -- 2. Where the reader goes on
+  over-drop : (n : ℕ) (t : Text) → stops q n t ≡ stops q 0 (drop n t)
+  unfolding stops
+  over-drop zero t = refl
+  over-drop (suc n) [] = refl
+  over-drop (suc n) (b ∷ t) = over-drop n t
+
+  bad-step : (b : ℕ) (t : Text) (x y : Bool) → eqb b (q .escape) ≡ x → isEscape q (b ∷ t) ≡ y
+      → badEscape q (b ∷ t) ≡ (x && not y) || badEscape q (drop (pick y 2 0) t)
+  unfolding badEscape stops some
+  bad-step b t x y h e = rw (h, e, over-drop (pick y 2 0) t)
+
+  resolved-step : (b : ℕ) (t : Text) (y : Bool) (c : ℕ) → isEscape q (b ∷ t) ≡ y → standsFor q (five q) (b ∷ t) ≡ c
+      → resolved q (b ∷ t) ≡ c ∷ resolved q (drop (pick y 2 0) t)
+  unfolding resolved stops
+  resolved-step b t y c e s = rw (e, s, over-drop (pick y 2 0) t)
+
+  -- no bytes have no bad escape, and resolve to none
+  pub bad-none : badEscape q [] ≡ false
+  unfolding badEscape stops some
+  bad-none = refl
+
+  pub resolved-none : resolved q [] ≡ []
+  unfolding resolved stops
+  resolved-none = refl
+
+  byte-bad : (b : ℕ) (t : Text) → eqb b (q .escape) ≡ false → badEscape q (b ∷ t) ≡ badEscape q t
+  byte-bad b t h = bad-step b t false false h (byte-none b t h)
+
+  byte-resolved : (b : ℕ) (t : Text) → eqb b (q .escape) ≡ false → resolved q (b ∷ t) ≡ b ∷ resolved q t
+  byte-resolved b t h = resolved-step b t false b (byte-none b t h) (byte-stands b t h)
+
+  -- a text with no \ has no bad escape
+  pub free-good : (t : Text) → every (isOther (q .escape)) t ≡ true → badEscape q t ≡ false
+  unfolding every
+  free-good [] e = bad-none
+  free-good (b ∷ t) e =
       let h = both (isOther (q .escape) b) (every (isOther (q .escape)) t) e in
-      rw (not-taken (eqb b (q .escape)) (h .0)) (free-ends t (h .1))
-
-  -- a bad escape stays one
-  wrong-ends : (t : Text) → endsOutside q wrong t ≡ false
-  unfolding endsOutside
-  wrong-ends [] = refl
-  wrong-ends (b ∷ t) = wrong-ends t
-
-  open-step : (l : Bool) (x : ℕ) → isOutside (pick l (meaning x) wrong) ≡ false
-  open-step true x = refl
-  open-step false x = refl
-
-  ends-step : (l e : Bool) (x c : ℕ) (t : Text) → eqb c (q .escape) ≡ e
-      → endsOutside q (next q (pick l (meaning x) wrong) c) t ≡ pick (l && e) (endsOutside q outside t) false
-  ends-step true true x c t h = rw h
-  ends-step true false x c t h = rw h (wrong-ends t)
-  ends-step false e x c t h = wrong-ends t
-
-  -- behind a \
-  begun-ends : (u : Text) → endsOutside q begun u ≡ pick (isEscape (q .escape) u) (endsOutside q outside (drop 2 u)) false
-  unfolding endsOutside
-  begun-ends [] = refl
-  begun-ends (b ∷ []) = rw (letter-means q b) (open-step (isLetter b) (meant q b))
-  begun-ends (b ∷ c ∷ t) = rw (letter-means q b) (ends-step (isLetter b) (eqb c (q .escape)) (meant q b) c t refl)
-
-  begun-resolved : (u : Text) → isEscape (q .escape) u ≡ true → resolvedFrom q begun u ≡ meant q (getD u 0 0) ∷ resolvedFrom q outside (drop 2 u)
-  unfolding resolvedFrom
-  begun-resolved [] h = not-true h
-  begun-resolved (b ∷ []) h = not-true h
-  begun-resolved (b ∷ c ∷ t) h =
-      let k = both (isLetter b) (eqb c (q .escape)) h in
-      rw (letter-means q b, k .0, k .1)
-
-escape-room : (e : ℕ) (u : Text) → isEscape e u ≡ true → 2 ≤ length u
-escape-room e [] h = not-true h
-escape-room e (b ∷ []) h = not-true h
-escape-room e (b ∷ c ∷ t) h = omega arith
+      byte-bad b t (not-taken (eqb b (q .escape)) (h .0)) ∙ free-good t (h .1)
 
 -- a person reads byte b at i, and goes on at n
 pub record Goes (q : Marks) (t : Text) (i n b : ℕ) : Type 0 where
   pub within : n ≤ length t
-  pub ends : endsOutside q outside (drop i t) ≡ endsOutside q outside (drop n t)
-  pub reads : resolvedFrom q outside (drop i t) ≡ b ∷ resolvedFrom q outside (drop n t)
+  pub bad : badEscape q (drop i t) ≡ badEscape q (drop n t)
+  pub reads : resolved q (drop i t) ≡ b ∷ resolved q (drop n t)
 
--- the first byte is no \; it is one
-module _ (q : Marks) (b : ℕ) (u : Text) where
-  byte-ends : eqb b (q .escape) ≡ false → endsOutside q outside (b ∷ u) ≡ endsOutside q outside u
-  unfolding endsOutside
-  byte-ends h = ap (λ (x : Bool). endsOutside q (pick x begun outside) u) h
-
-  byte-reads : eqb b (q .escape) ≡ false → resolvedFrom q outside (b ∷ u) ≡ b ∷ resolvedFrom q outside u
-  unfolding resolvedFrom
-  byte-reads h =
-      ap (λ (x : Bool). pick x (resolvedFrom q (pick x begun outside) u) (b ∷ resolvedFrom q (pick x begun outside) u)) h
-
-  begin-ends : eqb b (q .escape) ≡ true → endsOutside q outside (b ∷ u) ≡ endsOutside q begun u
-  unfolding endsOutside
-  begin-ends h = ap (λ (x : Bool). endsOutside q (pick x begun outside) u) h
-
-  begin-reads : eqb b (q .escape) ≡ true → resolvedFrom q outside (b ∷ u) ≡ resolvedFrom q begun u
-  unfolding resolvedFrom
-  begin-reads h =
-      ap (λ (x : Bool). pick x (resolvedFrom q (pick x begun outside) u) (b ∷ resolvedFrom q (pick x begun outside) u)) h
+-- an escape at the front of a text is passed over whole
+goes-front : (q : Marks) (t : Text) → isEscape q t ≡ true → Goes q t 0 3 (meant q (getD t 1 0))
+goes-front q [] e = not-true (sym (escape-few q [] (omega arith)) ∙ e)
+goes-front q (b ∷ []) e = not-true (sym (escape-few q (b ∷ []) (omega arith)) ∙ e)
+goes-front q (b ∷ c ∷ []) e = not-true (sym (escape-few q (b ∷ c ∷ []) (omega arith)) ∙ e)
+goes-front q (b ∷ c ∷ d ∷ t) e =
+    record {
+      within = omega arith;
+      bad = bad-step q b (c ∷ d ∷ t) (eqb b (q .escape)) true refl e ∙ rw (and-false (eqb b (q .escape)));
+      reads = resolved-step q b (c ∷ d ∷ t) true (meant q c) e (escape-stands q b c d t e);
+    }
 
 module _ (q : Marks) (t : Text) (i : ℕ) where
-  pub ends-end : length t ≤ i → endsOutside q outside (drop i t) ≡ true
-  unfolding endsOutside
-  ends-end h = rw (drop-of-length-le t h)
+  pub bad-end : length t ≤ i → badEscape q (drop i t) ≡ false
+  bad-end h = rw (drop-of-length-le t h) (bad-none q)
 
-  pub reads-end : length t ≤ i → resolvedFrom q outside (drop i t) ≡ []
-  unfolding resolvedFrom
-  reads-end h = rw (drop-of-length-le t h)
+  pub reads-end : length t ≤ i → resolved q (drop i t) ≡ []
+  reads-end h = rw (drop-of-length-le t h) (resolved-none q)
 
   pub goes-byte : i < length t → (getD t i 0 ≡ q .escape → ⊥) → Goes q t i (i + 1) (getD t i 0)
   goes-byte h e =
       let f = ne-eqb (getD t i 0) (q .escape) e in
       record {
         within = omega arith;
-        ends = rw (add-one, drop-cons t i 0) (byte-ends q (getD t i 0) (drop (suc i) t) f);
-        reads = rw (add-one, drop-cons t i 0) (byte-reads q (getD t i 0) (drop (suc i) t) f);
+        bad = rw (add-one, drop-cons t i 0) (byte-bad q (getD t i 0) (drop (suc i) t) f);
+        reads = rw (add-one, drop-cons t i 0) (byte-resolved q (getD t i 0) (drop (suc i) t) f);
       }
 
-  -- where a \ stands, the rest is read from behind it
-  ends-begun : i < length t → getD t i 0 ≡ q .escape → endsOutside q outside (drop i t) ≡ endsOutside q begun (drop (i + 1) t)
-  ends-begun h e = rw (add-one, drop-cons t i 0) (begin-ends q (getD t i 0) (drop (suc i) t) (eq-eqb (getD t i 0) (q .escape) e))
-
-  reads-begun : i < length t → getD t i 0 ≡ q .escape → resolvedFrom q outside (drop i t) ≡ resolvedFrom q begun (drop (i + 1) t)
-  reads-begun h e = rw (add-one, drop-cons t i 0) (begin-reads q (getD t i 0) (drop (suc i) t) (eq-eqb (getD t i 0) (q .escape) e))
-
-  two-on : drop 2 (drop (i + 1) t) ≡ drop (i + 3) t
-  two-on = let e : i + 1 + 2 ≡ i + 3 = omega arith in drop-drop 2 (i + 1) t ∙ ap (λ (n : ℕ). drop n t) e
-
-  pub goes-escape : i < length t → getD t i 0 ≡ q .escape → isEscape (q .escape) (drop (i + 1) t) ≡ true → Goes q t i (i + 3) (meant q (getD t (i + 1) 0))
-  goes-escape h e g =
-      let z : i + 1 + 0 ≡ i + 1 = omega arith in
+  pub goes-escape : isEscape q (drop i t) ≡ true → Goes q t i (i + 3) (meant q (getD t (i + 1) 0))
+  goes-escape e =
+      let g = goes-front q (drop i t) e in
       record {
-        within = omega (arith, simp length-drop at (escape-room (q .escape) (drop (i + 1) t) g));
-        ends = ends-begun h e ∙ (begun-ends q (drop (i + 1) t) ∙ rw (g, two-on));
-        reads = reads-begun h e ∙ (begun-resolved q (drop (i + 1) t) g ∙ rw (two-on, getD-drop (i + 1) t 0 0, z));
+        within = omega (arith, simp length-drop at (g .within));
+        bad = g .bad ∙ rw (drop-drop 3 i t);
+        reads = g .reads ∙ rw (drop-drop 3 i t, getD-drop i t 1 0);
       }
 
-  pub escape-bad : i < length t → getD t i 0 ≡ q .escape → isEscape (q .escape) (drop (i + 1) t) ≡ false → endsOutside q outside (drop i t) ≡ false
-  escape-bad h e g = ends-begun h e ∙ (begun-ends q (drop (i + 1) t) ∙ rw g)
+  -- another \ is bad
+  pub escape-bad : i < length t → getD t i 0 ≡ q .escape → isEscape q (drop i t) ≡ false → badEscape q (drop i t) ≡ true
+  escape-bad h e n =
+      rw (drop-cons t i 0 h)
+      (bad-step q (getD t i 0) (drop (suc i) t) true false (eq-eqb (getD t i 0) (q .escape) e) (rw (drop-cons t i 0 h) at n))
 
-  good-step : (b : Bool) (s : Bool) → pick b s false ≡ true → b ≡ true
-  good-step true s g = refl
-  good-step false s g = g
+  good-step : i < length t → getD t i 0 ≡ q .escape → badEscape q (drop i t) ≡ false → (y : Bool) → isEscape q (drop i t) ≡ y → isEscape q (drop i t) ≡ true
+  good-step h e g true k = k
+  good-step h e g false k = not-true (sym g ∙ escape-bad h e k)
 
   -- in a text with no bad escape each \ that is read begins an escape
-  pub goes-good : i < length t → getD t i 0 ≡ q .escape → endsOutside q outside (drop i t) ≡ true → Goes q t i (i + 3) (meant q (getD t (i + 1) 0))
-  goes-good h e g =
-      goes-escape h e
-      (good-step (isEscape (q .escape) (drop (i + 1) t)) (endsOutside q outside (drop 2 (drop (i + 1) t)))
-      (sym (begun-ends q (drop (i + 1) t)) ∙ (sym (ends-begun h e) ∙ g)))
+  pub goes-good : i < length t → getD t i 0 ≡ q .escape → badEscape q (drop i t) ≡ false → Goes q t i (i + 3) (meant q (getD t (i + 1) 0))
+  goes-good h e g = goes-escape (good-step h e g (isEscape q (drop i t)) refl)
 
--- what follows a \, told by the bytes at i
-module _ (e : ℕ) (t : Text) (i : ℕ) where
-  short-step : (u : Text) → length u < 2 → isEscape e u ≡ false
-  short-step [] h = refl
-  short-step (b ∷ []) h = refl
-  short-step (b ∷ c ∷ u) h = absurd (omega arith)
+  -- whether one begins at i, told by the bytes there
+  pub escape-short : length t - i < 3 → isEscape q (drop i t) ≡ false
+  escape-short h = escape-few q (drop i t) (simp length-drop (omega arith))
 
-  pub escape-short : length t - i < 2 → isEscape e (drop i t) ≡ false
-  escape-short h = short-step (drop i t) (simp length-drop (omega arith))
-
-  pub escape-at : i + 2 ≤ length t → isEscape e (drop i t) ≡ isLetter (getD t i 0) && eqb (getD t (i + 1) 0) e
-  escape-at h =
-      let l : i < length t = omega arith in
-      let k : suc i < length t = omega arith in
-      rw (add-one, drop-cons t i 0 l, drop-cons t (suc i) 0 k)
+  pub escape-at : i + 3 ≤ length t → getD t i 0 ≡ q .escape
+      → isEscape q (drop i t) ≡ isLetter (getD t (i + 1) 0) && eqb (getD t (i + 2) 0) (q .escape)
+  escape-at h e =
+      let a : i < length t = omega arith in
+      let b : suc i < length t = omega arith in
+      let c : suc (suc i) < length t = omega arith in
+      let one : i + 1 ≡ suc i = omega arith in
+      let two : i + 2 ≡ suc (suc i) = omega arith in
+      rw (one, two, drop-cons t i 0 a, drop-cons t (suc i) 0 b, drop-cons t (suc (suc i)) 0 c)
+      (escape-front q (getD t i 0) (getD t (suc i) 0) (getD t (suc (suc i)) 0) (drop (suc (suc (suc i))) t) ∙ rw (eq-eqb (getD t i 0) (q .escape) e))
 
 -- n bytes of the resolved text are counted when the reader stands at i
 pub record Counted (q : Marks) (t : Text) (n i : ℕ) : Type 0 where
   pub within : i ≤ length t
   pub fewer : n ≤ i
-  pub good : endsOutside q outside (drop i t) ≡ true
-  pub told : n + length (resolvedFrom q outside (drop i t)) ≡ length (resolvedFrom q outside t)
+  pub good : badEscape q (drop i t) ≡ false
+  pub told : n + length (resolved q (drop i t)) ≡ length (resolved q t)
 
 module _ (q : Marks) (t : Text) where
-  pub counted-none : endsOutside q outside t ≡ true → Counted q t 0 0
+  pub counted-none : badEscape q t ≡ false → Counted q t 0 0
   counted-none g = record { within = omega arith; fewer = omega arith; good = g; told = omega arith }
 
   pub counted-more : (n i j b : ℕ) → i < j → Goes q t i j b → Counted q t n i → Counted q t (n + 1) j
@@ -195,11 +216,11 @@ module _ (q : Marks) (t : Text) where
       record {
         within = g .within;
         fewer = omega arith;
-        good = sym (g .ends) ∙ c .good;
+        good = sym (g .bad) ∙ c .good;
         told = omega (arith, ap length (g .reads));
       }
 
-  pub counted-all : (n i : ℕ) → length t ≤ i → Counted q t n i → n ≡ length (resolvedFrom q outside t)
+  pub counted-all : (n i : ℕ) → length t ≤ i → Counted q t n i → n ≡ length (resolved q t)
   counted-all n i h c = omega (arith, c .told, ap length (reads-end q t i h))
 
 -- a buffer with the rest still to be written at n
@@ -220,13 +241,13 @@ filled-step n b rest buffer h =
 pub record Filled (q : Marks) (t before : Text) (at : ℕ) (buffer : Text) (to i : ℕ) : Type 0 where
   pub within : i ≤ length t
   pub size : length buffer ≡ length before
-  pub room : at + length (resolvedFrom q outside t) ≤ length before
-  pub good : endsOutside q outside (drop i t) ≡ true
-  pub left : to + length (resolvedFrom q outside (drop i t)) ≡ at + length (resolvedFrom q outside t)
-  pub told : filled to (resolvedFrom q outside (drop i t)) buffer ≡ filled at (resolvedFrom q outside t) before
+  pub room : at + length (resolved q t) ≤ length before
+  pub good : badEscape q (drop i t) ≡ false
+  pub left : to + length (resolved q (drop i t)) ≡ at + length (resolved q t)
+  pub told : filled to (resolved q (drop i t)) buffer ≡ filled at (resolved q t) before
 
 module _ (q : Marks) (t before : Text) (at : ℕ) where
-  pub filled-first : endsOutside q outside t ≡ true → at + length (resolvedFrom q outside t) ≤ length before → Filled q t before at before at 0
+  pub filled-first : badEscape q t ≡ false → at + length (resolved q t) ≤ length before → Filled q t before at before at 0
   filled-first g h = record { within = omega arith; size = refl; room = h; good = g; left = refl; told = refl }
 
   module _ (buffer : Text) (to i : ℕ) (f : Filled q t before at buffer to i) where
@@ -240,43 +261,33 @@ module _ (q : Marks) (t before : Text) (at : ℕ) where
           within = g .within;
           size = simp length-set (f .size);
           room = f .room;
-          good = sym (g .ends) ∙ f .good;
+          good = sym (g .bad) ∙ f .good;
           left = omega (arith, ap length (g .reads), f .left);
-          told = filled-step to b (resolvedFrom q outside (drop j t)) buffer k ∙ (rw (g .reads) at (f .told));
+          told = filled-step to b (resolved q (drop j t)) buffer k ∙ (rw (g .reads) at (f .told));
         }
 
-    pub filled-all : length t ≤ i → Puts before at (resolvedFrom q outside t) buffer to
+    pub filled-all : length t ≤ i → Puts before at (resolved q t) buffer to
     filled-all h =
         record {
           room = f .room;
           holds =
               sym (filled-none to buffer)
               ∙ ((rw (reads-end q t i h) at (f .told))
-              ∙ sym (append-assoc (take at before) (resolvedFrom q outside t) (drop (at + length (resolvedFrom q outside t)) before)));
+              ∙ sym (append-assoc (take at before) (resolved q t) (drop (at + length (resolved q t)) before)));
           ends = omega (arith, f .left, ap length (reads-end q t i h));
         }
 
--- each byte adds at most one: a text resolved is no longer
-outside-length : (c : Bool) (b : ℕ) (t : Text) → length (pick c t (b ∷ t)) ≤ suc (length t)
-outside-length true b t = omega arith
-outside-length false b t = omega arith
-
+-- each stop is at a byte of its own: a text resolved is no longer
 module _ (q : Marks) where
-  adding-length : (s : Stand) (b : ℕ) (t : Text) → length (adding q s b t) ≤ suc (length t)
-  adding-length outside b t = outside-length (eqb b (q .escape)) b t
-  adding-length begun b t = omega arith
-  adding-length (meaning x) b t = omega arith
-  adding-length wrong b t = omega arith
-
-  from-length : (s : Stand) (t : Text) → length (resolvedFrom q s t) ≤ length t
-  unfolding resolvedFrom
-  from-length s [] = omega arith
-  from-length s (b ∷ t) =
-      let n = next q s b in
-      omega (arith, adding-length s b (resolvedFrom q n t), from-length n t)
+  stops-length : (n : ℕ) (t : Text) → length (stops q n t) ≤ length t
+  unfolding stops
+  stops-length n [] = omega arith
+  stops-length (suc n) (b ∷ t) = omega (arith, stops-length n t)
+  stops-length zero (b ∷ t) = omega (arith, stops-length (pick (isEscape q (b ∷ t)) 2 0) t)
 
   pub resolved-length : (t : Text) → length (resolved q t) ≤ length t
-  resolved-length t = from-length outside t
+  unfolding resolved
+  resolved-length t = omega (arith, length-map (stops q 0 t) (standsFor q (five q)), stops-length 0 t)
 
 -- the three answers of resolving
 module _ (q : Marks) (t : Text) (room : ℕ) where

@@ -1,64 +1,71 @@
--- Escapes, read from the left: \F\ \S\ \T\ \R\ \E\ stand for the five separators | ^ & ~ \.
-use Prim.Native.Nat.{ℕ}
-use mathlib.Core.Bool.{Bool, true, false, not}
-use mathlib.Core.List.{List, [], _∷_}
-use lib.ListN.{length}
+-- An entry's promise is made of this.
+-- Escapes: \F\ \S\ \T\ \R\ \E\ are turned into the five separators, read from the left; a \ that begins none of these is a bad escape.
+-- The separators are those of the marks q, and \ stands here for the one that is their escape character.
+use Prim.Native.Nat.{ℕ, zero, suc}
+use Prim.Native.String.{String}
+use mathlib.Core.Bool.{Bool, not, _&&_}
+use mathlib.Core.List.{List, [], _∷_, map}
+use lib.ListN.{length, getD, take}
 use lib.Dec.{eqb, ltb}
-use Rattle.text.specs.Bytes.{Text, pick, byte}
+use Rattle.text.specs.Bytes.{Text, pick, byte, same, some}
 use Rattle.text.specs.Answer.{Answer, Test, test, first}
 use Rattle.text.specs.declared.marks.Marks.{Marks}
 use Rattle.text.specs.declared.refusal.Refusal.the-variants.{NoRoom, BadEscape}
 
--- where a reader stands: outside an escape; behind its first \; behind the letter, which means a separator; or behind a \ that
--- begins none of the five
-pub data Stand : Type 0 where
-  outside : Stand
-  begun : Stand
-  meaning : ℕ → Stand
-  wrong : Stand
+-- an escape: its letter, and the separator that it is turned into
+pub record Escape : Type 0 where
+  pub letter : ℕ
+  pub separator : ℕ
 
-abbrev pub letter : Marks → ℕ → Stand
-letter q b =
-    pick (eqb b (byte "F")) (meaning (q .field))
-    (pick (eqb b (byte "S")) (meaning (q .component))
-    (pick (eqb b (byte "T")) (meaning (q .subcomponent))
-    (pick (eqb b (byte "R")) (meaning (q .repetition)) (pick (eqb b (byte "E")) (meaning (q .escape)) wrong))))
+abbrev pub _into_ : String → ℕ → Escape
+_into_ l s = record { letter = byte l; separator = s }
 
--- where the reader stands behind one more byte
-abbrev pub next : Marks → Stand → ℕ → Stand
-next q outside b = pick (eqb b (q .escape)) begun outside
-next q begun b = letter q b
-next q (meaning x) b = pick (eqb b (q .escape)) outside wrong
-next q wrong b = wrong
+infix 60 _into_
+-- THE FIVE ESCAPES
+abbrev pub five : Marks → List Escape
+five q =
+    ("F" into q .field)
+    ∷ ("S" into q .component)
+    ∷ ("T" into q .subcomponent)
+    ∷ ("R" into q .repetition)
+    ∷ ("E" into q .escape)
+    ∷ []
 
-abbrev pub isOutside : Stand → Bool
-isOutside outside = true
-isOutside begun = false
-isOutside (meaning x) = false
-isOutside wrong = false
+-- the text begins with that escape: its first three bytes are \, the letter, and \ again
+abbrev pub begins : Marks → Text → Escape → Bool
+begins q t e = same (take 3 t) (q .escape ∷ e .letter ∷ q .escape ∷ [])
 
-unfoldable pub endsOutside : Marks → Stand → Text → Bool
-endsOutside q s [] = isOutside s
-endsOutside q s (b ∷ t) = endsOutside q (next q s b) t
+-- the text begins with one of the five
+unfoldable pub isEscape : Marks → Text → Bool
+isEscape q t = some (begins q t) (five q)
 
--- A BAD ESCAPE: some \ of the text begins none of the five
-abbrev pub badEscape : Marks → Text → Bool
-badEscape q t = not (endsOutside q outside t)
+-- the first byte
+abbrev pub front : Text → ℕ
+front t = getD t 0 0
 
--- what one more byte adds to the text that a person reads
-abbrev pub adding : Marks → Stand → ℕ → Text → Text
-adding q outside b t = pick (eqb b (q .escape)) t (b ∷ t)
-adding q begun b t = t
-adding q (meaning x) b t = x ∷ t
-adding q wrong b t = t
+-- the text begins with a \ that begins none of the five
+abbrev pub isBad : Marks → Text → Bool
+isBad q t = eqb (front t) (q .escape) && not (isEscape q t)
 
-unfoldable pub resolvedFrom : Marks → Stand → Text → Text
-resolvedFrom q s [] = []
-resolvedFrom q s (b ∷ t) = adding q s b (resolvedFrom q (next q s b) t)
+-- what the text's beginning stands for: an escape for its separator, any other byte for itself
+unfoldable pub standsFor : Marks → List Escape → Text → ℕ
+standsFor q [] t = front t
+standsFor q (e ∷ es) t = pick (begins q t e) (e .separator) (standsFor q es t)
 
--- THE TEXT RESOLVED, where it has no bad escape
-abbrev pub resolved : Marks → Text → Text
-resolved q t = resolvedFrom q outside t
+-- READ FROM THE LEFT: the text from each byte on at which the reader stops. The number says how many bytes are yet to be passed over: where
+-- one of the five begins, the two after its first byte; else none.
+unfoldable pub stops : Marks → ℕ → Text → List Text
+stops q over [] = []
+stops q (suc over) (b ∷ t) = stops q over t
+stops q zero (b ∷ t) = (b ∷ t) ∷ stops q (pick (isEscape q (b ∷ t)) 2 0) t
+
+-- A BAD ESCAPE: the reader stops at one
+unfoldable pub badEscape : Marks → Text → Bool
+badEscape q t = some (isBad q) (stops q 0 t)
+
+-- THE TEXT RESOLVED, where it has no bad escape: what each stop stands for
+unfoldable pub resolved : Marks → Text → Text
+resolved q t = map (standsFor q (five q)) (stops q 0 t)
 
 abbrev pub resolveTests : Marks → Text → ℕ → List Test
 resolveTests q t room =

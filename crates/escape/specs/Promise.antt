@@ -1,4 +1,5 @@
--- What the calls that write into a lent buffer promise.
+-- An entry's promise is made of this.
+-- What resolving promises.
 use mathlib.Core.Path.{_≡_}
 use lib.ListN.{length}
 use Rattle.text.specs.Bytes.{Text}

@@ -1,9 +1,9 @@
--- One step through a text with escapes. Only inner functions promise it.
+-- Inner: no entry's promise is made of this.
+-- One step through a text with escapes.
 use Prim.Native.Nat.{ℕ}
-use mathlib.Core.Bool.{Bool, false, not, _&&_, _||_}
-use mathlib.Core.List.{[], _∷_}
+use mathlib.Core.Bool.{Bool, not, _||_}
 use lib.Dec.{eqb}
-use Rattle.text.specs.Bytes.{Text, pick, byte}
+use Rattle.text.specs.Bytes.{pick, byte}
 use Rattle.text.specs.declared.marks.Marks.{Marks}
 
 -- a byte other than that one
@@ -21,9 +21,3 @@ meant q b =
     pick (eqb b (byte "F")) (q .field)
     (pick (eqb b (byte "S")) (q .component)
     (pick (eqb b (byte "T")) (q .subcomponent) (pick (eqb b (byte "R")) (q .repetition) (q .escape))))
-
--- what follows a \ makes it one of the five: a letter, and the escape's second \
-abbrev pub isEscape : ℕ → Text → Bool
-isEscape escape [] = false
-isEscape escape (b ∷ []) = false
-isEscape escape (b ∷ c ∷ t) = isLetter b && eqb c escape

@@ -1,13 +1,13 @@
 // Escapes: the test for a bad one, and the text that a person reads.
 ghost use mathlib.Core.Path.{_≡_};
 ghost use mathlib.Core.Bool.{false};
-ghost use Prim.Native.Nat.{_+_, _≤_};
-ghost use lib.ListN.{length, drop};
+ghost use Prim.Native.Nat.{_+_, _≤_, _<_};
+ghost use lib.ListN.{length, getD, drop};
 ghost use Rattle.text.specs.Bytes.{every};
-ghost use Rattle.escape.specs.Escape.{badEscape, resolved};
+ghost use Rattle.escape.specs.Escape.{isEscape, badEscape, resolved};
 ghost use Rattle.escape.specs.Promise.{Resolves};
 ghost use Rattle.text.specs.Puts.{Puts};
-ghost use Rattle.escape.specs.Step.{isOther, isLetter, isEscape};
+ghost use Rattle.escape.specs.Step.{isOther, isLetter};
 use text::Marks;
 use text::Refusal;
 use text::Written;
@@ -33,15 +33,15 @@ fn meant(q: Marks, b: u8) -> u8
     }
 }
 
-// Whether the \ just before i begins one of the five escapes.
+// Whether the \ at i begins one of the five escapes.
 fn is_escape(q: Marks, t: &[u8], i: usize) -> bool
-    requires { ⌜ i ≤ length (now t) ⌝ }
-    ensures { λ r. ⌜ r ≡ isEscape (q .escape) (drop i (now (t .entry))) ⌝ }
+    requires { ⌜ (i < length (now t)) × (getD (now t) i 0 ≡ q .escape) ⌝ }
+    ensures { λ r. ⌜ r ≡ isEscape q (drop i (now (t .entry))) ⌝ }
 {
-    if t.len() - i < 2 {
+    if t.len() - i < 3 {
         return false;
     }
-    is_letter(t[i]) & (t[i + 1] == q.escape)
+    is_letter(t[i + 1]) & (t[i + 2] == q.escape)
 }
 
 // Whether a text has no such byte. No early way out, so that many bytes are tested at once.
@@ -64,7 +64,7 @@ fn some_bad(q: Marks, t: &[u8]) -> bool
     let mut i = 0;
     while i < t.len() {
         if t[i] == q.escape {
-            if !is_escape(q, t, i + 1) {
+            if !is_escape(q, t, i) {
                 return true;
             }
             i += 3;

@@ -1,3 +1,4 @@
+-- A demand is said with this.
 -- WHAT THE DEMANDS SAY OF THE SIX ENTRIES HOLDS OF THE SIX EXPORTED FUNCTIONS, which C and Rust call. Such a function returns a number: 0 where the
 -- call is answered, else the number of the refusal. What it has to tell besides stands in a list of numbers that is lent to it, `out`.
 -- The user must be certain that each call has one answer and only one; that a refusal is the first that applies in 01's order, and leaves the

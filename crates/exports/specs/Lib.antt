@@ -1,1 +1,2 @@
+-- A demand is said with this.
 pub mod Exports

@@ -12,13 +12,14 @@ use Rattle.profile.specs.Numbers.{componentColumn, rowSize, subcomponentColumn}
 use Rattle.text.specs.Bytes.{Text, every, within}
 use Rattle.escape.specs.Escape.{badEscape}
 use Rattle.escape.specs.Step.{isOther}
-use Rattle.escape.proofs.Escapes.{free-ends}
+use Rattle.escape.proofs.Escapes.{free-good}
 use Rattle.text.specs.declared.marks.Marks.{Marks}
 use Rattle.text.proofs.Tests.{both}
 use native.Mathlib.Nat.{zero-add}
 use Rattle.text.proofs.Tests.{not-true as no}
 use Rattle.text.proofs.Lists.{and-both, or-none, every-drop, every-take}
-use Rattle.parts.specs.Split.{split, piece, start}
+use Rattle.parts.specs.Split.{split, piece}
+use Rattle.parts.specs.Start.{start}
 use Rattle.parts.specs.Span.{span}
 use Rattle.cursor.specs.Cursor.{IsPiece}
 use Rattle.cursor.specs.declared.Cursor.{Cursor}
@@ -63,7 +64,7 @@ module _ (q : Marks) where
       }
 
   pub flat-plain : (x : Text) → isFlat q x ≡ true → badEscape q x ≡ false
-  flat-plain x h = ap not (free-ends q x (flat x h .escape))
+  flat-plain x h = free-good q x (flat x h .escape)
 
   -- it is its own first subcomponent
   flat-leaf : (x : Text) → isFlat q x ≡ true → span 0 x ≡ span (start (q .subcomponent) 1 x) (piece 1 (split (q .subcomponent) x))

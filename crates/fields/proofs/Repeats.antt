@@ -13,17 +13,20 @@ use Rattle.text.specs.Bytes.{Text, some, within}
 use Rattle.text.specs.declared.marks.Marks.{Marks}
 use Rattle.text.proofs.Tests.{not-true}
 use Rattle.text.proofs.Lists.{or-assoc, or-false}
-use Rattle.parts.specs.Split.{split, reach}
+use Rattle.parts.specs.Split.{split}
+use Rattle.parts.specs.Start.{reach}
 use Rattle.parts.proofs.Reach.{split-end}
 use Rattle.parts.proofs.Join.{Some, split-some}
 use Rattle.profile.specs.Table.{Leaf}
 use Rattle.leaves.specs.declared.repetition.ReadRepetition.{ReadRepetition}
 use Rattle.fields.specs.declared.field.ReadField.{ReadField}
 use Rattle.checks.specs.Place.{Place, place}
-use Rattle.checks.specs.View.{Entry, Repetition, entriesOf, isFilled, filledFrom}
+use Rattle.checks.specs.View.{Entry, Repetition, isFilled}
+use Rattle.checks.specs.Repetition.{entriesOf, filledFrom}
 use Rattle.checks.specs.Fault.{startsFilled, Verdict, accepted, fault, repetitionChecks, firstBroken}
 use Rattle.leaves.specs.Judged.{told, ReadsRepetition}
-use Rattle.fields.specs.Judged.{repetitionsIn, filledIn, ReadsField}
+use Rattle.checks.specs.Repetition.{repetitionsIn}
+use Rattle.fields.specs.Judged.{filledIn, ReadsField}
 use Rattle.checks.proofs.Filled.{late-none}
 use Rattle.leaves.proofs.Breaks.{orElse, broken-append}
 
@@ -35,15 +38,15 @@ brokenIn q n o f rs = firstBroken (flatMap (repetitionChecks q n o f) rs)
 abbrev pub foundIn : Text → ℕ → ℕ → ReadField → Verdict
 foundIn n o f r = told (place n o f (r .repetition) (r .component) (r .subcomponent)) (r .reason)
 
--- the reader stands at that repetition: those left to read are that one and the ones behind it
+-- the reader stands at that repetition: those left to read are that one and the ones after it
 pub record Repeats (q : Marks) (ls : List Leaf) (x : Text) (number : ℕ) (left : List Text) (r : ReadField) : Type 0 where
   pub numbered : 1 ≤ number
   pub surplus : r .surplus ≡ false
   pub counted : length (repetitionsIn q x) + 1 ≡ number + length left
-  pub filled : startsFilled (filledIn q ls x) ≡ r .filled || startsFilled (filledFrom number (entriesOf q false ls) left)
+  pub filled : startsFilled (filledIn q ls x) ≡ r .filled || startsFilled (filledFrom number (entriesOf q ls) left)
   pub late : (r .reason ≡ 0 → ⊥) → 1 < number
   pub first : (n : Text) (o f : ℕ) → brokenIn q n o f (filledIn q ls x)
-      ≡ orElse (foundIn n o f r) (brokenIn q n o f (filledFrom number (entriesOf q false ls) left))
+      ≡ orElse (foundIn n o f r) (brokenIn q n o f (filledFrom number (entriesOf q ls) left))
 
 -- a fault found stays, whatever follows
 found-stays : (n : ℕ) (p : Place) (v w : Verdict) → (n ≡ 0 → ⊥) → orElse (told p n) v ≡ orElse (told p n) w
@@ -89,7 +92,7 @@ repeats-first q ls (b ∷ x) h =
 
 module _ (q : Marks) (ls : List Leaf) (x : Text) (number : ℕ) where
   abbrev read : Text → List Entry
-  read = entriesOf q false ls
+  read = entriesOf q ls
 
   module _ (p : Text) (left : List Text) (r : ReadField) (w : Repeats q ls x number (p ∷ left) r) where
     -- a check is broken already: nothing changes

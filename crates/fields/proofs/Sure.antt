@@ -10,17 +10,20 @@ use borrow.Author.Tests.{eqb-true, ne-eqb, leb-true, le-ltb}
 use Rattle.text.specs.Bytes.{Text, empty, every, some, within}
 use Rattle.text.specs.declared.marks.Marks.{Marks}
 use Rattle.text.proofs.Tests.{both, not-true as no}
-use Rattle.parts.specs.Split.{split, piece, start, front}
-use Rattle.parts.specs.Descent.{part}
+use Rattle.parts.specs.Split.{split, piece, front}
+use Rattle.parts.specs.Start.{start}
+use Rattle.parts.specs.Span.{partText}
 use Rattle.parts.proofs.Split.{piece-le}
 use Rattle.parts.proofs.Descent.{within-piece}
 use Rattle.parts.proofs.Join.{split-one}
-use Rattle.profile.specs.Table.{Simple, SI, NM, DTM, TM, ST, TX, FT, ID, IS, Codes, any, only, Leaf, ofType, among}
+use Rattle.profile.specs.Table.{Simple, SI, NM, DTM, TM, ST, TX, FT, ID, IS, Codes, any, only, Leaf, ofType}
 use Rattle.profile.specs.Order.{takesAny, hasNoList, takesUpTo}
 use Rattle.codes.specs.Inner.{SureUpTo, sure}
-use Rattle.checks.specs.Place.{Place, place, leafIn}
-use Rattle.checks.specs.View.{Entry, entriesOf}
-use Rattle.checks.specs.Fault.{Check, accepted, leafChecks, repetitionChecks, firstBroken}
+use Rattle.checks.specs.Place.{Place, place}
+use Rattle.checks.specs.Repetition.{leafIn}
+use Rattle.checks.specs.View.{Entry}
+use Rattle.checks.specs.Repetition.{entriesOf}
+use Rattle.checks.specs.Fault.{Check, accepted, listChecks, leafChecks, repetitionChecks, firstBroken}
 use Rattle.leaves.specs.Judged.{ReadsRepetition}
 use Rattle.leaves.proofs.Breaks.{broken-flat}
 use Rattle.fields.specs.Flat.{isFlat, passedOnce}
@@ -38,9 +41,10 @@ any-type FT t e = refl
 any-type ID t e = refl
 any-type IS t e = refl
 
-any-code : (l : Codes) (t : Text) → hasNoList l ≡ true → among l t ≡ true
-any-code any t e = refl
-any-code (only l) t e = no e
+any-code : (p : Place) (l : Codes) (t : Text) → hasNoList l ≡ true → firstBroken (listChecks p l t) ≡ accepted
+unfolding firstBroken
+any-code p any t e = refl
+any-code p (only codes n) t e = no e
 
 -- what is said of a leaf
 pub record Takes (n : ℕ) (l : Leaf) : Type 0 where
@@ -100,8 +104,8 @@ module _ (q : Marks) (x : Text) (clean : isFlat q x ≡ true) (filled : 1 ≤ le
   component-flat : (c : ℕ) → isFlat q (component c) ≡ true
   component-flat c = rw (component-is c) at (flat-within q (from c) (from c + length (component c)) x clean)
 
-  leaf-is : (c : ℕ) → leafIn q false x c 1 ≡ component c
-  unfolding part
+  leaf-is : (c : ℕ) → leafIn q x c 1 ≡ component c
+  unfolding partText
   leaf-is c = rw (split-one (q .subcomponent) (component c) (flat q (component c) (component-flat c) .subcomponent))
 
   first-filled : empty (component 1) ≡ false
@@ -112,21 +116,21 @@ module _ (q : Marks) (x : Text) (clean : isFlat q x ≡ true) (filled : 1 ≤ le
   starred true c e = rw (e refl, first-filled)
   starred false c e = and-false (empty (component c))
 
-  leaf-good : (l : Leaf) → Takes n l → (p : Place) → firstBroken (leafChecks q p l (leafIn q false x (l .component) (l .subcomponent))) ≡ accepted
+  leaf-good : (l : Leaf) → Takes n l → (p : Place) → firstBroken (leafChecks q p l (leafIn q x (l .component) (l .subcomponent))) ≡ accepted
   unfolding firstBroken
   leaf-good l t p =
       let c = l .component in
       let fits : length (component c) ≤ l .limit = omega (arith, piece-le (q .component) c x, t .limit, short) in
-      rw (t .first, leaf-is c, starred (l .star) c (t .star), le-ltb (l .limit) (length (component c)) fits, flat-plain q (component c) (component-flat c), any-type (l .type) (component c) (t .type), any-code (l .list) (component c) (t .list), and-false (not (empty (component c))))
+      rw (t .first, leaf-is c, starred (l .star) c (t .star), le-ltb (l .limit) (length (component c)) fits, flat-plain q (component c) (component-flat c), any-type (l .type) (component c) (t .type), any-code p (l .list) (component c) (t .list), and-false (not (empty (component c))))
 
   leaves-good : (ls : List Leaf) → every (takesUpTo n) ls ≡ true → (m : Text) (o f k : ℕ)
-      → firstBroken (repetitionChecks q m o f (record { number = k; entries = entriesOf q false ls x })) ≡ accepted
+      → firstBroken (repetitionChecks q m o f (record { number = k; entries = entriesOf q ls x })) ≡ accepted
   unfolding every flatMap firstBroken
   leaves-good [] e m o f k = refl
   leaves-good (l ∷ ls) e m o f k =
       let h = both (takesUpTo n l) (every (takesUpTo n) ls) e in
       let checks : Entry → List Check = λ e. leafChecks q (place m o f k (e .leaf .component) (e .leaf .subcomponent)) (e .leaf) (e .text) in
-      broken-flat checks (record { leaf = l; text = leafIn q false x (l .component) (l .subcomponent) }) (entriesOf q false ls x)
+      broken-flat checks (record { leaf = l; text = leafIn q x (l .component) (l .subcomponent) }) (entriesOf q ls x)
       ∙ rw (leaf-good l (takes n l (h .0)) (place m o f k (l .component) (l .subcomponent))) (leaves-good ls (h .1) m o f k)
 
   -- THE REPETITION is filled and breaks nothing

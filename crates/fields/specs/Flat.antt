@@ -1,3 +1,4 @@
+-- Inner: no entry's promise is made of this.
 -- What only the quick tests speak of: fields that have components at most, and what is told of one that breaks nothing.
 use Prim.Native.Nat.{ℕ}
 use mathlib.Core.Bool.{Bool, true, false, not, _||_}

@@ -1,4 +1,5 @@
 pub mod Segments
+pub mod Occurrences
 pub mod Frame
 pub mod Header
 pub mod Names

@@ -13,7 +13,7 @@ use Rattle.text.specs.Marks.{marksOf}
 use Rattle.text.specs.declared.marks.Marks.{Marks}
 use Rattle.text.specs.declared.refusal.Refusal.the-variants.{BadSegment, SecondHeader, TooMany}
 use Rattle.text.proofs.Lists.{or-assoc, or-false}
-use Rattle.parts.specs.Split.{reach}
+use Rattle.parts.specs.Start.{reach}
 use Rattle.parts.proofs.Reach.{ended-on, ended-end}
 use Rattle.frame.specs.Segments.{segments, isHeader}
 use Rattle.frame.specs.Frame.{isSegment, segmentTests}

@@ -1,3 +1,4 @@
+-- An entry's promise is made of this.
 -- What the frame must be: eight tests, in order.
 use Prim.Native.Nat.{ℕ}
 use mathlib.Core.Bool.{Bool, true, false, not, _&&_, _||_}
@@ -43,19 +44,28 @@ isSegment q s = isName (take 3 s) && opens q (drop 3 s)
 -- those of the segments
 abbrev pub segmentTests : Text → List Test
 segmentTests m =
+    -- 6 BAD SEGMENT: a segment not of the form above, or of no bytes
     test BadSegment (not (every (isSegment (marksOf m)) (segments m)))
+    -- 7 SECOND HEADER: a later segment named MSH
     ∷ test SecondHeader (some isHeader (drop 1 (segments m)))
+    -- 8 TOO MANY: over 512 segments
     ∷ test TooMany (ltb mostSegments (length (segments m)))
     ∷ []
 
 -- THE EIGHT TESTS
 unfoldable pub frameTests : Text → List Test
 frameTests m =
+    -- 1 EMPTY: no bytes
     test Empty (empty m)
+    -- 2 TOO LONG: over 65,535 bytes
     ∷ test TooLong (ltb longestMessage (length m))
+    -- 3 BAD BYTE: a byte not allowed above
     ∷ test BadByte (not (every allowed m))
+    -- 4 NO HEADER: first nine bytes are not MSH, the five separators, and the field separator again
     ∷ test NoHeader (not (same (take headerSize m) (header (marksOf m))))
+    -- 5 NO END: last byte isn't CR
     ∷ test NoEnd (not (endsWithCR m))
+    -- 6 to 8
     ∷ segmentTests m
 
 -- a message with a good frame

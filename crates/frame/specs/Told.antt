@@ -1,3 +1,4 @@
+-- Inner: no entry's promise is made of this.
 -- What the answers of this room tell.
 use Rattle.text.specs.Answer.{Answer, refused, given}
 use Rattle.frame.specs.declared.checks.Framing as framing

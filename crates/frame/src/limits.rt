@@ -3,7 +3,7 @@ pub const LONGEST_MESSAGE: usize = 65535;
 
 pub const MOST_SEGMENTS: usize = 512;
 
-// A header's name and separators, behind which MSH-3 begins; any other segment's name and separator, behind which its fields begin.
+// A header's name and separators, after which MSH-3 begins; any other segment's name and separator, after which its fields begin.
 pub const HEADER_SIZE: usize = 9;
 
 pub const OPENING_SIZE: usize = 4;

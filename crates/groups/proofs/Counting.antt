@@ -6,7 +6,7 @@ use mathlib.Core.Bool.{Bool, true, false}
 use mathlib.Core.List.{_∷_}
 use lib.ListN.{length, drop}
 use Rattle.text.specs.Bytes.{Text, bytes, cr, within}
-use Rattle.parts.specs.Split.{reach}
+use Rattle.parts.specs.Start.{reach}
 use Rattle.parts.proofs.Reach.{ended-on, ended-end}
 use Rattle.frame.specs.Segments.{segments, named}
 use Rattle.groups.specs.Observations.{observations}

@@ -1,1 +1,2 @@
+-- An entry's promise is made of this.
 pub mod Observations

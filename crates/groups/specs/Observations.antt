@@ -1,3 +1,4 @@
+-- An entry's promise is made of this.
 -- The observations of a group: its OBX count.
 use Prim.Native.Nat.{ℕ, zero, suc}
 use mathlib.Core.List.{List, [], _∷_}

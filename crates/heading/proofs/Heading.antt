@@ -1,4 +1,4 @@
--- The reply's header: what is copied of the message's own header, and its texts one behind another.
+-- The reply's header: what is copied of the message's own header, and its texts one after another.
 use mathlib.Core.Path.{_≡_, refl, sym, ap, _∙_}
 use Prim.Native.Nat.{ℕ, _+_, _≤_}
 use native.Mathlib.Omega.{arith}
@@ -13,15 +13,17 @@ use Rattle.text.specs.Marks.{usual, marksOf}
 use Rattle.parts.specs.Split.{led, join, trimmed}
 use Rattle.parts.proofs.Trim.{trimmed-join, trimmed-led, trimmed-left, trimmed-none, none-left}
 use Rattle.profile.specs.Lists.{processing-ids}
-use Rattle.parts.specs.Descent.{part, inRepetition}
+use Rattle.parts.specs.Descent.{inRepetition}
+use Rattle.parts.specs.Span.{partText}
 use Rattle.frame.specs.Segments.{occurrence}
-use Rattle.reader.specs.Place.{textAt}
+use Rattle.reader.specs.Place.{place}
+use Rattle.reader.proofs.Stands.{text-is}
 use Rattle.reader.specs.FromField.{Behind, FieldsFrom, firstRepetition, firstLeaf}
 use Rattle.reader.proofs.Cutting.{third-split, component-leaf, field-leaves, behind-both, fields-behind}
 use Rattle.heading.specs.Header.{headerLeaf, orEmpty, hdOf, copiedHD, processing, replyHeader}
 use Rattle.heading.specs.Inner.{HeaderFrom, leafThere, hdThere, withSeparator, parties}
 
--- the length of texts that stand one behind another
+-- the length of texts that stand one after another
 length-three : (a b c : Text) → length ((a ++ b) ++ c) ≡ length a + length b + length c
 length-three a b c = simp length-append
 
@@ -31,7 +33,7 @@ length-four a b c d = simp length-append
 length-six : (a b c d e f : Text) → length (((((a ++ b) ++ c) ++ d) ++ e) ++ f) ≡ length a + length b + length c + length d + length e + length f
 length-six a b c d e f = simp length-append
 
--- the second and the third component of an HD, each behind its separator, where it or a later one is filled
+-- the second and the third component of an HD, each after its separator, where it or a later one is filled
 abbrev second : Text → Text → Text
 second b c = pick (ltb 0 (length c) || ltb 0 (length b)) (byte "^" ∷ b) []
 
@@ -61,7 +63,7 @@ pub record Copies (t a b c : Text) : Type 0 where
 
 module _ (q : Marks) (t u w : Text) (later : Behind (q .component) 1 t u) (last : Behind (q .component) 1 u w) where
   leaves : (a b c : Text) → a ≡ orEmpty q 20 (firstLeaf q t) → b ≡ orEmpty q 199 (firstLeaf q u) → c ≡ orEmpty q 20 (firstLeaf q w)
-      → join (usual .component) (trimmed (a ∷ b ∷ c ∷ [])) ≡ hdOf q (part false (inRepetition q 1 1) t) (part false (inRepetition q 2 1) t) (part false (inRepetition q 3 1) t)
+      → join (usual .component) (trimmed (a ∷ b ∷ c ∷ [])) ≡ hdOf q (partText (inRepetition q 1 1) t) (partText (inRepetition q 2 1) t) (partText (inRepetition q 3 1) t)
   leaves a b c i j k =
       rw (i, j, k, component-leaf q 1 t u later, component-leaf q 2 t w (behind-both (q .component) 1 1 t u w later last))
 
@@ -74,10 +76,9 @@ module _ (q : Marks) (t u w : Text) (later : Behind (q .component) 1 t u) (last 
 -- THE FIELDS of the message's header
 module _ (m : Text) (f : ℕ) (t : Text) (from : HeaderFrom m f t) (l : 3 ≤ f) where
   leaf-there : (c : ℕ) → leafThere (marksOf m) t c ≡ headerLeaf m f c
-  unfolding textAt
   leaf-there c =
       let s = occurrence m (bytes "MSH") 1 in
-      field-leaves (marksOf m) s f t from (third-split s f l) c
+      field-leaves (marksOf m) s f t from (third-split s f l) c ∙ sym (text-is m (place (bytes "MSH") 1 f 1 c 1))
 
   pub leaf-copied : firstLeaf (marksOf m) (firstRepetition (marksOf m) t) ≡ headerLeaf m f 1
   leaf-copied = leaf-there 1
@@ -112,7 +113,7 @@ parties-copied m {q} k t u w x from i j l =
     rw (k, hd-there m 3 t from (omega arith), hd-there m 4 u (rw k at fourth) (omega arith), hd-there m 5 w (rw k at fifth) (omega arith), hd-there m 6 x (rw k at sixth) (omega arith)) in
     record { written = e; size = ap length (sym e) ∙ length-four a b c d }
 
--- MSH-11.1, the field behind the control number's
+-- MSH-11.1, the field after the control number's
 pub processing-copied : (m : Text) {q : Marks} → q ≡ marksOf m → (t u r : Text) → HeaderFrom m 10 t → Behind (q .field) 1 t u
     → r ≡ firstLeaf q (firstRepetition q u) → processing r ≡ processing (headerLeaf m 11 1)
 processing-copied m {q} k t u r from b e =
@@ -128,7 +129,7 @@ module _ (t : Text) {b : Bool} (told : b ≡ isOne t processing-ids) where
   pub processing-other : b ≡ false → processing t ≡ bytes "P"
   processing-other e = rw (← told, e)
 
--- the header's texts, one behind another: z stands between the fields
+-- the header's texts, one after another: z stands between the fields
 spread : (z h a b c d s k n p v e : Text)
     → ((((((h ++ ((((a ++ z) ++ (b ++ z)) ++ (c ++ z)) ++ (d ++ z))) ++ s) ++ (z ++ (z ++ (k ++ z)))) ++ n) ++ z) ++ p) ++ (z ++ (v ++ e))
     ≡ (h ++ (a ++ (z ++ (b ++ (z ++ (c ++ (z ++ (d ++ (z ++ (s ++ (z ++ (z ++ (k ++ (z ++ (n ++ (z ++ (p ++ (z ++ v)))))))))))))))))) ++ e

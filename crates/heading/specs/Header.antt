@@ -1,3 +1,4 @@
+-- An entry's promise is made of this.
 -- The reply's header: its exact bytes, of the message's own header, a stamp and a reply number.
 use Prim.Native.Nat.{ℕ}
 use mathlib.Core.Bool.{_||_}
@@ -9,7 +10,8 @@ use Rattle.escape.specs.Escape.{badEscape}
 use Rattle.text.specs.Limits.{tooLong}
 use Rattle.parts.specs.Split.{join, trimmed}
 use Rattle.frame.specs.Frame.{header}
-use Rattle.profile.specs.Table.{limitOf, IS, ST, ID}
+use Rattle.profile.specs.Table.{IS, ST, ID}
+use Rattle.profile.specs.Limits.{limitOf}
 use Rattle.profile.specs.Lists.{processing-ids}
 use Rattle.reader.specs.Place.{place, textAt}
 
@@ -33,7 +35,7 @@ copiedHD m f = hdOf (marksOf m) (headerLeaf m f 1) (headerLeaf m f 2) (headerLea
 abbrev pub processing : Text → Text
 processing t = pick (isOne t processing-ids) t (bytes "P")
 
--- the header's fields behind its ninth byte
+-- the header's fields after its ninth byte
 abbrev pub headerFields : Text → Text → Text → List Text
 headerFields m stamp number =
     copiedHD m 5

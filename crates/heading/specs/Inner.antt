@@ -1,3 +1,4 @@
+-- Inner: no entry's promise is made of this.
 -- What only inner functions promise and ask for.
 use Prim.Native.Nat.{ℕ}
 use mathlib.Core.Bool.{false}
@@ -5,7 +6,8 @@ use mathlib.Core.List.{[], _∷_, _++_}
 use Rattle.text.specs.Bytes.{Text, bytes, byte}
 use Rattle.text.specs.declared.marks.Marks.{Marks}
 use Rattle.text.specs.Marks.{marksOf}
-use Rattle.parts.specs.Descent.{part, inRepetition}
+use Rattle.parts.specs.Descent.{inRepetition}
+use Rattle.parts.specs.Span.{partText}
 use Rattle.frame.specs.Segments.{occurrence}
 use Rattle.reader.specs.FromField.{FieldsFrom, firstRepetition}
 use Rattle.heading.specs.Header.{hdOf, copiedHD}
@@ -21,12 +23,12 @@ pub record Opened (m third tenth : Text) : Type 0 where
 
 -- the first of the fields that stand there as an HD that is copied
 abbrev pub leafThere : Marks → Text → ℕ → Text
-leafThere q t c = part false (inRepetition q c 1) (firstRepetition q t)
+leafThere q t c = partText (inRepetition q c 1) (firstRepetition q t)
 
 abbrev pub hdThere : Marks → Text → Text
 hdThere q t = hdOf q (leafThere q t 1) (leafThere q t 2) (leafThere q t 3)
 
--- a field with the separator behind it
+-- a field with the separator after it
 abbrev pub withSeparator : Text → Text
 withSeparator t = t ++ byte "|" ∷ []
 

@@ -42,7 +42,7 @@ fn or_empty<'a>(q: Marks, limit: usize, t: &'a [u8]) -> &'a [u8]
     leaf
 }
 
-// A component behind its separator; nothing where neither it nor a later one is filled.
+// A component after its separator; nothing where neither it nor a later one is filled.
 fn put_component(out: &mut [u8], at: usize, wanted: bool, t: &[u8]) -> usize
     requires { ⌜ at + length (pick wanted (byte "^" ∷ now t) []) ≤ length (now out) ⌝ }
     ensures { λ r. ⌜ Puts (now (out .entry)) at (pick wanted (byte "^" ∷ now (t .entry)) []) (now (out .exit)) r ⌝ }
@@ -54,7 +54,7 @@ fn put_component(out: &mut [u8], at: usize, wanted: bool, t: &[u8]) -> usize
     put(out, a, t)
 }
 
-// The first of those fields, an HD, as it is copied, and the separator behind it.
+// The first of those fields, an HD, as it is copied, and the separator after it.
 fn put_hd(out: &mut [u8], at: usize, q: Marks, fields: &[u8]) -> usize
     requires { ⌜ at + length (withSeparator (hdThere q (now fields))) ≤ length (now out) ⌝ }
     ensures { λ r. ⌜ Puts (now (out .entry)) at (withSeparator (hdThere q (now (fields .entry)))) (now (out .exit)) r ⌝ }

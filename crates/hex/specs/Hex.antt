@@ -1,3 +1,4 @@
+-- The desk's programs promise this.
 -- A slip's bytes as they are printed: two hexadecimal digits each, sixteen bytes to a line.
 use Prim.Native.Nat.{ℕ, suc, _+_, _-_, _/_, _%_}
 use mathlib.Core.List.{[], _∷_, _++_}
@@ -9,7 +10,7 @@ use Rattle.line.specs.Line.{newline, asLine, refusedLine}
 abbrev pub hexDigit : ℕ → ℕ
 hexDigit n = pick (ltb n 10) (byte "0" + n) (byte "A" + (n - 10))
 
--- what stands behind the byte with i before it
+-- what stands after the byte with i before it
 abbrev pub behind : ℕ → ℕ
 behind i = pick (eqb (i % 16) 15) newline (byte " ")
 

@@ -16,7 +16,7 @@ fn hex_digit(n: u8) -> u8
     b'A' + (n - 10)
 }
 
-// What stands behind the byte with i before it: sixteen bytes make a line.
+// What stands after the byte with i before it: sixteen bytes make a line.
 fn gap(i: usize) -> u8
     ensures { λ r. ⌜ r ≡ behind i ⌝ }
 {

@@ -1,3 +1,4 @@
+-- Inner: no entry's promise is made of this.
 -- Where the window on the input stands in its memory.
 use Prim.Native.Nat.{ℕ, _≤_}
 use Rattle.input.specs.declared.Window.{Window}

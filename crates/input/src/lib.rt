@@ -1,4 +1,4 @@
-// A window on standard input: what is read and not used yet is kept, and more is read behind it.
+// A window on standard input: what is read and not used yet is kept, and more is read after it.
 ghost use Prim.Native.Nat.{_+_, _≤_};
 ghost use lib.ListN.{length};
 ghost use Rattle.input.specs.Inside.{Inside};
@@ -30,7 +30,7 @@ fn move_front(window: &mut [u8], from: usize, to: usize)
     }
 }
 
-// Reads once behind what is there, and answers how many bytes came.
+// Reads once after what is there, and answers how many bytes came.
 fn read_behind(window: &mut [u8], at: usize) -> usize
     requires { ⌜ at ≤ length (now window) ⌝ }
     ensures { λ r. ⌜ at + r ≤ length (now (window .exit)) ⌝ }
@@ -39,7 +39,7 @@ fn read_behind(window: &mut [u8], at: usize) -> usize
     io::count(got, &window[at..])
 }
 
-// The window with what comes behind the bytes that are kept; no longer open where nothing comes.
+// The window with what comes after the bytes that are kept; no longer open where nothing comes.
 fn more(window: &mut [u8], kept: usize, is_long: bool) -> Window
     requires { ⌜ kept ≤ length (now window) ⌝ }
     ensures { λ r. ⌜ Inside r (length (now (window .exit))) ⌝ }

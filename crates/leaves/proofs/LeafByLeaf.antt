@@ -8,15 +8,17 @@ use lib.ListN.{length, getD, drop}
 use lib.Seq.{getD-drop}
 use lib.Dec.{ltb, leb}
 use borrow.Author.Tests.{lt-ltb, le-ltb, ltb-true, leb-true}
-use Rattle.profile.specs.Numbers.{componentColumn, reasonColumn, rowSize, starColumn, subcomponentColumn}
+use Rattle.profile.specs.Numbers.{componentColumn, rowSize, starColumn, subcomponentColumn}
 use Rattle.text.specs.Bytes.{Text, empty, some, within}
 use Rattle.text.specs.declared.marks.Marks.{Marks}
 use Rattle.text.proofs.Tests.{both}
 use Rattle.text.proofs.Lists.{or-assoc, or-false}
 use Rattle.cursor.specs.declared.Cursor.{Cursor}
 use Rattle.parts.specs.declared.Span.{Span}
-use Rattle.parts.specs.Split.{split, piece, start}
-use Rattle.parts.specs.Descent.{part, step}
+use Rattle.parts.specs.Split.{split, piece}
+use Rattle.parts.specs.Start.{start}
+use Rattle.parts.specs.Descent.{step}
+use Rattle.parts.specs.Span.{partText}
 use Rattle.parts.specs.Span.{span}
 use Rattle.cursor.specs.Cursor.{IsPiece}
 use Rattle.parts.proofs.Split.{piece-le}
@@ -25,11 +27,14 @@ use Rattle.cursor.proofs.Moving.{cursor-text, cursor-past}
 use Rattle.codes.specs.declared.rows.Rows.{Rows}
 use Rattle.profile.specs.Table.{Leaf}
 use Rattle.profile.specs.Numbers as row
+use Rattle.profile.specs.Order.{reasonFits}
 use Rattle.codes.specs.Inner.{Ascends, next, Lists, leavesAt}
 use Rattle.leaves.specs.declared.repetition.ReadRepetition.{ReadRepetition}
-use Rattle.checks.specs.Place.{Place, place, leafIn}
+use Rattle.checks.specs.Place.{Place, place}
+use Rattle.checks.specs.Repetition.{leafIn}
 use Rattle.checks.proofs.Filled.{none-filled, no-leaf}
-use Rattle.checks.specs.View.{entriesOf, isFilled}
+use Rattle.checks.specs.View.{isFilled}
+use Rattle.checks.specs.Repetition.{entriesOf}
 use Rattle.checks.specs.Fault.{Verdict, accepted, fault, leafChecks, repetitionChecks, firstBroken}
 use Rattle.leaves.specs.Judged.{told, ReadsMissing, ReadsRepetition}
 use Rattle.codes.proofs.RowSteps.{rows-next, rows-none}
@@ -39,7 +44,7 @@ use Rattle.leaves.proofs.Breaks.{orElse, or-else-none, broken-flat, tol
 
 -- the first broken check of these leaves
 abbrev pub broken : Marks → List Leaf → Text → Text → ℕ → ℕ → ℕ → Verdict
-broken q ls s n o f k = firstBroken (repetitionChecks q n o f (record { number = k; entries = entriesOf q false ls s }))
+broken q ls s n o f k = firstBroken (repetitionChecks q n o f (record { number = k; entries = entriesOf q ls s }))
 
 length-none : (t : Text) (n : ℕ) → n ≡ n + length t → t ≡ []
 length-none [] n e = refl
@@ -50,18 +55,18 @@ module _ (q : Marks) (s : Text) (c : Cursor) (h : IsPiece (q .component) s c) (l
   piece-missing k l =
       length-none (piece k (split (q .component) s)) (c .end) (cursor-past (q .component) s (c .number) (c .start) (c .end) k h l last .ends)
 
-  leaf-missing : (k b : ℕ) → c .number < k → leafIn q false s k b ≡ leafIn q false [] k b
-  unfolding part
+  leaf-missing : (k b : ℕ) → c .number < k → leafIn q s k b ≡ leafIn q [] k b
+  unfolding partText
   leaf-missing k b l = rw (piece-missing k l) (part-nil (step (q .subcomponent) b ∷ []) ∙ sym (no-leaf q k b))
 
-  pub entries-missing : (k : ℕ) (ls : List Leaf) → Ascends k ls → c .number < k → entriesOf q false ls s ≡ entriesOf q false ls []
+  pub entries-missing : (k : ℕ) (ls : List Leaf) → Ascends k ls → c .number < k → entriesOf q ls s ≡ entriesOf q ls []
   entries-missing k [] a l = refl
-  entries-missing k (x ∷ ls) (next i _ _ r) l =
+  entries-missing k (x ∷ ls) (next i _ r) l =
       rw (leaf-missing (x .component) (x .subcomponent) (omega arith), entries-missing (x .component) ls r (omega arith))
 
 -- of all leaves these are left to be read; that was found before them
 pub record Left (q : Marks) (s : Text) (all ls : List Leaf) (found : ReadRepetition) : Type 0 where
-  pub fills : isFilled (entriesOf q false all s) ≡ found .filled || isFilled (entriesOf q false ls s)
+  pub fills : isFilled (entriesOf q all s) ≡ found .filled || isFilled (entriesOf q ls s)
   pub breaks : (n : Text) (o f k : ℕ) → broken q all s n o f k ≡ orElse (told (place n o f k (found .component) (found .subcomponent)) (found .reason)) (broken q ls s n o f k)
 
 abbrev pub nothing : ReadRepetition
@@ -72,17 +77,17 @@ module _ (q : Marks) (s : Text) where
   left-all all = record { fills = refl; breaks = λ n o f k. refl }
 
   broken-next : (l : Leaf) (ls : List Leaf) (n : Text) (o f k : ℕ) (r : ℕ)
-      → ((p : Place) → told p r ≡ firstBroken (leafChecks q p l (leafIn q false s (l .component) (l .subcomponent))))
+      → ((p : Place) → told p r ≡ firstBroken (leafChecks q p l (leafIn q s (l .component) (l .subcomponent))))
       → broken q (l ∷ ls) s n o f k ≡ orElse (told (place n o f k (l .component) (l .subcomponent)) r) (broken q ls s n o f k)
-  broken-next l ls n o f k r h = rw (h (place n o f k (l .component) (l .subcomponent))) (broken-flat _ _ (entriesOf q false ls s))
+  broken-next l ls n o f k r h = rw (h (place n o f k (l .component) (l .subcomponent))) (broken-flat _ _ (entriesOf q ls s))
 
-  module _ (all ls : List Leaf) (l : Leaf) (found : ReadRepetition) (h : Left q s all (l ∷ ls) found) (here : Bool) (fills : here ≡ not (empty (leafIn q false s (l .component) (l .subcomponent)))) where
-    fills-on : isFilled (entriesOf q false all s) ≡ found .filled || here || isFilled (entriesOf q false ls s)
+  module _ (all ls : List Leaf) (l : Leaf) (found : ReadRepetition) (h : Left q s all (l ∷ ls) found) (here : Bool) (fills : here ≡ not (empty (leafIn q s (l .component) (l .subcomponent)))) where
+    fills-on : isFilled (entriesOf q all s) ≡ found .filled || here || isFilled (entriesOf q ls s)
     unfolding some
-    fills-on = h .fills ∙ rw fills (sym (or-assoc (found .filled) (not (empty (leafIn q false s (l .component) (l .subcomponent)))) (isFilled (entriesOf q false ls s))))
+    fills-on = h .fills ∙ rw fills (sym (or-assoc (found .filled) (not (empty (leafIn q s (l .component) (l .subcomponent)))) (isFilled (entriesOf q ls s))))
 
     -- nothing was broken before this leaf
-    pub left-judged : found .reason ≡ 0 → (r : ℕ) → ((p : Place) → told p r ≡ firstBroken (leafChecks q p l (leafIn q false s (l .component) (l .subcomponent))))
+    pub left-judged : found .reason ≡ 0 → (r : ℕ) → ((p : Place) → told p r ≡ firstBroken (leafChecks q p l (leafIn q s (l .component) (l .subcomponent))))
         → Left q s all ls (record { filled = found .filled || here; reason = r; component = l .component; subcomponent = l .subcomponent })
     left-judged e r g =
         record {
@@ -109,8 +114,8 @@ module _ (q : Marks) (s : Text) where
       }
 
   -- those left are all missing
-  module _ (all ls : List Leaf) (found : ReadRepetition) (h : Left q s all ls found) (none : entriesOf q false ls s ≡ entriesOf q false ls []) where
-    filled-before : found .filled ≡ isFilled (entriesOf q false all s)
+  module _ (all ls : List Leaf) (found : ReadRepetition) (h : Left q s all ls found) (none : entriesOf q ls s ≡ entriesOf q ls []) where
+    filled-before : found .filled ≡ isFilled (entriesOf q all s)
     filled-before = sym (h .fills ∙ rw (none, none-filled q ls) (or-false (found .filled)))
 
     pub left-broken : (found .reason ≡ 0 → ⊥) → ReadsRepetition q all s found
@@ -145,14 +150,14 @@ module _ (q : Marks) (s : Text) (c : Cursor) (h : IsPiece (q .component) s c) (b
   ends : p .end ≡ p .start + length (piece b (split (q .subcomponent) component))
   ends = rw found
 
-  leaf-is : piece b (split (q .subcomponent) component) ≡ leafIn q false s (c .number) b
-  unfolding part
+  leaf-is : piece b (split (q .subcomponent) component) ≡ leafIn q s (c .number) b
+  unfolding partText
   leaf-is = rw (cursor-text (q .component) s c h)
 
-  leaf-text : within (p .start) (p .end) component ≡ leafIn q false s (c .number) b
+  leaf-text : within (p .start) (p .end) component ≡ leafIn q s (c .number) b
   leaf-text = within-piece component (q .subcomponent) b (p .start) (p .end) (ap (λ (r : Span). r .start) found) ends ∙ leaf-is
 
-  leaf-some : ltb (p .start) (p .end) ≡ not (empty (leafIn q false s (c .number) b))
+  leaf-some : ltb (p .start) (p .end) ≡ not (empty (leafIn q s (c .number) b))
   leaf-some = rw (← leaf-is) (ltb-some (piece b (split (q .subcomponent) component)) (p .start) (p .end) ends)
 
 -- the leaves of the rows from one place up to another
@@ -167,8 +172,8 @@ pub record Reading (s : Text) (q : Marks) (table : List ℕ) (first end : ℕ) (
   pub ascends : Ascends (cursor .number) (leaves table at end)
   pub left : Left q s (leaves table first end) (leaves table at end) found
 
-pub rises : (k : ℕ) (l : Leaf) (ls : List Leaf) → Ascends k (l ∷ ls) → (k ≤ l .component) × ((1 ≤ l .reason) × (l .reason ≤ 12)) × Ascends (l .component) ls
-rises k l ls (next a b c r) = (a, (b, c), r)
+pub rises : (k : ℕ) (l : Leaf) (ls : List Leaf) → Ascends k (l ∷ ls) → (k ≤ l .component) × (reasonFits (l .list) ≡ true) × Ascends (l .component) ls
+rises k l ls (next a b r) = (a, b, r)
 
 module _ {s : Text} {q : Marks} {table : List ℕ} where
   pub reading-first : {r : Rows} {c : Cursor} → Lists table r (leavesAt table r) → IsPiece (q .component) s c × (c .number ≡ 1)
@@ -194,7 +199,7 @@ module _ {s : Text} {q : Marks} {table : List ℕ} where
       abbrev rest : List Leaf
       rest = leaves table (at + rowSize) end
 
-      rise : (c .number ≤ l .component) × ((1 ≤ l .reason) × (l .reason ≤ 12)) × Ascends (l .component) rest
+      rise : (c .number ≤ l .component) × (reasonFits (l .list) ≡ true) × Ascends (l .component) rest
       rise = rises (c .number) l rest (rw (rows-next table at end more) at (w .ascends))
 
       left : Left q s (leaves table first end) (l ∷ rest) found
@@ -203,12 +208,12 @@ module _ {s : Text} {q : Marks} {table : List ℕ} where
       pub reading-number : c .number ≤ getD table (at + componentColumn) 0
       reading-number = rw (← getD-drop at table componentColumn 0) (rise .0)
 
-      pub reading-reason : (1 ≤ getD table (at + reasonColumn) 0) × (getD table (at + reasonColumn) 0 ≤ 12)
-      reading-reason = rw (← getD-drop at table reasonColumn 0) (rise .1)
+      pub reading-reason : reasonFits (l .list) ≡ true
+      reading-reason = rise .1
 
-      -- its component is behind the last
+      -- its component is after the last
       module _ (missing : ltb (c .number) (getD table (at + componentColumn) 0) && leb (length s) (c .end) ≡ true) where
-        none-left : entriesOf q false (leaves table at end) s ≡ entriesOf q false (leaves table at end) []
+        none-left : entriesOf q (leaves table at end) s ≡ entriesOf q (leaves table at end) []
         none-left =
             let b = both (ltb (c .number) (getD table (at + componentColumn) 0)) (leb (length s) (c .end)) missing in
             let last = leb-true (length s) (c .end) (b .1) in
@@ -224,9 +229,9 @@ module _ {s : Text} {q : Marks} {table : List ℕ} where
       -- its component and its text are found
       module _ {d : Cursor} (moved : IsPiece (q .component) s d × (d .number ≡ getD table (at + componentColumn) 0)) {p : Span} (found-at : p ≡ span (start (q .subcomponent) (getD table (at + subcomponentColumn) 0) (within (d .start) (d .end) s)) (piece (getD table (at + subcomponentColumn) 0) (split (q .subcomponent) (within (d .start) (d .end) s)))) where
         abbrev text : Text
-        text = leafIn q false s (l .component) (l .subcomponent)
+        text = leafIn q s (l .component) (l .subcomponent)
 
-        same-leaf : leafIn q false s (d .number) (getD table (at + subcomponentColumn) 0) ≡ text
+        same-leaf : leafIn q s (d .number) (getD table (at + subcomponentColumn) 0) ≡ text
         same-leaf = rw (moved .1, getD-drop at table componentColumn 0, getD-drop at table subcomponentColumn 0)
 
         same-text : within (p .start) (p .end) (within (d .start) (d .end) s) ≡ text

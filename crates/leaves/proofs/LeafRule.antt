@@ -1,28 +1,55 @@
 -- The first check that a leaf's text breaks: one law for each way out.
 use mathlib.Core.Path.{_≡_, refl, sym}
-use Prim.Native.Nat.{ℕ, _+_, _≤_, _<_}
+use Prim.Native.Nat.{ℕ, zero, suc, _+_, _≤_, _<_}
 use native.Mathlib.Omega.{arith}
 use mathlib.Core.Bool.{Bool, true, false, not}
 use mathlib.Core.List.{List, [], _∷_}
 use lib.ListN.{length, getD, drop}
 use lib.Seq.{getD-drop}
-use borrow.Author.Tests.{eq-eqb, ne-eqb, lt-ltb, le-ltb}
-use Rattle.text.specs.Bytes.{Text, empty}
-use Rattle.escape.specs.Escape.{endsOutside, badEscape}
+use lib.Dec.{leb}
+use borrow.Author.Tests.{eq-eqb, ne-eqb, lt-ltb, le-ltb, leb-true}
+use Rattle.text.specs.Bytes.{Text, pick, empty}
+use Rattle.escape.specs.Escape.{badEscape}
 use Rattle.text.specs.declared.marks.Marks.{Marks}
-use Rattle.text.proofs.Tests.{empty-none, empty-some}
-use Rattle.profile.specs.Table.{ofType, among}
-use Rattle.profile.specs.Numbers.{leafOf, simpleOf, codesOf, limitColumn, listColumn, reasonColumn, starColumn, typeColumn}
+use Rattle.text.proofs.Tests.{both, not-true as no, empty-none, empty-some}
+use Rattle.profile.specs.Table.{Codes, any, only, ofType}
+use Rattle.profile.specs.Numbers.{leafOf, simpleOf, codesOf, isInList, limitColumn, listColumn, reasonColumn, starColumn, typeColumn}
+use Rattle.profile.specs.Order.{reasonFits}
+use Rattle.escape.proofs.Escapes.{bad-none}
 use Rattle.codes.proofs.Numbered.{other-type}
 use Rattle.checks.specs.Place.{Place}
-use Rattle.checks.specs.Fault.{Verdict, accepted, fault, check, leafChecks, firstBroken}
+use Rattle.checks.specs.Fault.{Verdict, accepted, fault, check, listChecks, leafChecks, firstBroken}
 use Rattle.leaves.specs.Judged.{told}
 
 -- no bytes, no escape
 no-escape : (q : Marks) (s : Text) → length s ≡ 0 → badEscape q s ≡ false
-unfolding endsOutside
-no-escape q [] e = refl
+no-escape q [] e = bad-none q
 no-escape q (b ∷ s) e = absurd (omega arith)
+
+-- the list's check, where there is one: Empty passes; any other text is in the list or not
+no-text : (p : Place) (c : Codes) (s : Text) → empty s ≡ true → firstBroken (listChecks p c s) ≡ accepted
+unfolding firstBroken
+no-text p any s e = refl
+no-text p (only codes n) s e = rw e
+
+by-list : (p : Place) (i n : ℕ) (s : Text) → empty s ≡ false → firstBroken (listChecks p (codesOf i n) s) ≡ pick (not (isInList i s)) (fault p n) accepted
+unfolding firstBroken
+by-list p zero n s e = refl
+by-list p (suc i) n s e = rw e
+
+-- so where a text is not in its list there is one, and its reason is from 1 to 12
+reason-range : (i n : ℕ) (s : Text) (listed : Bool) → listed ≡ isInList i s → not listed ≡ true → reasonFits (codesOf i n) ≡ true → (1 ≤ n) × (n ≤ 12)
+reason-range zero n s true e f h = no f
+reason-range zero n s false e f h = no e
+reason-range (suc i) n s listed e f h =
+    let w = both (leb 1 n) (leb n 12) h in
+    (leb-true 1 n (w .0), leb-true n 12 (w .1))
+
+pub row-reason : (table : List ℕ) (at : ℕ) (s : Text) (listed : Bool) → listed ≡ isInList (getD table (at + listColumn) 0) s → not listed ≡ true
+    → reasonFits (leafOf (drop at table) .list) ≡ true → (1 ≤ getD table (at + reasonColumn) 0) × (getD table (at + reasonColumn) 0 ≤ 12)
+row-reason table at s listed e f h =
+    reason-range (getD table (at + listColumn) 0) (getD table (at + reasonColumn) 0) s listed e f
+    (rw (getD-drop at table listColumn 0, getD-drop at table reasonColumn 0) at h)
 
 module _ (q : Marks) (table : List ℕ) (at : ℕ) (s : Text) where
   abbrev number : ℕ → ℕ
@@ -39,7 +66,7 @@ module _ (q : Marks) (table : List ℕ) (at : ℕ) (s : Text) where
     pub rule-empty : (number starColumn ≡ 1 → ⊥) → (p : Place) → accepted ≡ first p
     unfolding firstBroken
     rule-empty e p =
-        rw (empty-none s none, no-escape q s none, getD-drop at table starColumn 0, ne-eqb (number starColumn) 1 e, le-ltb (getD (drop at table) limitColumn 0) (length s) (omega arith))
+        rw (no-text p (leafOf (drop at table) .list) s (empty-none s none), empty-none s none, no-escape q s none, getD-drop at table starColumn 0, ne-eqb (number starColumn) 1 e, le-ltb (getD (drop at table) limitColumn 0) (length s) (omega arith))
 
   module _ (some : length s ≡ 0 → ⊥) where
     filled : empty s ≡ false
@@ -50,7 +77,7 @@ module _ (q : Marks) (table : List ℕ) (at : ℕ) (s : Text) where
     rule-long l p = rw (filled, getD-drop at table limitColumn 0, lt-ltb (number limitColumn) (length s) l)
 
     module _ (fits : length s ≤ number limitColumn) where
-      short : (p : Place) → first p ≡ firstBroken (check p 6 (badEscape q s) ∷ check p 7 (not (ofType (simpleOf (number typeColumn)) s)) ∷ check p (number reasonColumn) (not (among (codesOf (number listColumn)) s)) ∷ [])
+      short : (p : Place) → first p ≡ firstBroken (check p 6 (badEscape q s) ∷ check p 7 (not (ofType (simpleOf (number typeColumn)) s)) ∷ listChecks p (codesOf (number listColumn) (number reasonColumn)) s)
       unfolding firstBroken
       short p = rw (filled, getD-drop at table limitColumn 0, le-ltb (number limitColumn) (length s) fits, getD-drop at table typeColumn 0, getD-drop at table listColumn 0, getD-drop at table reasonColumn 0)
 
@@ -64,14 +91,16 @@ module _ (q : Marks) (table : List ℕ) (at : ℕ) (s : Text) where
           unfolding firstBroken
           rule-type e p = rw (short p, ← escaped, good, ← is-typed, e)
 
-          module _ (of-type : not typed ≡ false) (listed : Bool) (is-listed : listed ≡ among (codesOf (number listColumn)) s) where
-            pub rule-list : not listed ≡ true → 1 ≤ number reasonColumn → (p : Place) → told p (number reasonColumn) ≡ first p
+          module _ (of-type : not typed ≡ false) (listed : Bool) (is-listed : listed ≡ isInList (number listColumn) s) where
+            pub rule-list : not listed ≡ true → reasonFits (leafOf (drop at table) .list) ≡ true → (p : Place) → told p (number reasonColumn) ≡ first p
             unfolding firstBroken
-            rule-list e l p = rw (short p, ← escaped, good, ← is-typed, of-type, ← is-listed, e, ne-eqb (number reasonColumn) 0 (λ z. omega (arith, z)))
+            rule-list e h p =
+                let l = row-reason table at s listed is-listed e h .0 in
+                rw (short p, ← escaped, good, ← is-typed, of-type, by-list p (number listColumn) (number reasonColumn) s filled, ← is-listed, e, ne-eqb (number reasonColumn) 0 (λ z. omega (arith, l, z)))
 
             pub rule-good : not listed ≡ false → (p : Place) → accepted ≡ first p
             unfolding firstBroken
-            rule-good e p = rw (short p, ← escaped, good, ← is-typed, of-type, ← is-listed, e)
+            rule-good e p = rw (short p, ← escaped, good, ← is-typed, of-type, by-list p (number listColumn) (number reasonColumn) s filled, ← is-listed, e)
 
 -- a leaf whose type and list take any text
 pub rule-any : (q : Marks) (table : List ℕ) (at : ℕ) (s : Text) → 0 < length s → length s ≤ getD table (at + limitColumn) 0 → 4 < getD table (at + typeColumn) 0 → getD table (at + listColumn) 0 ≡ 0 → badEscape q s ≡ false

@@ -1,3 +1,4 @@
+-- Inner: no entry's promise is made of this.
 -- What only inner functions promise of judging a repetition: its first broken check, told from where a reader stands.
 use Prim.Native.Nat.{ℕ}
 use mathlib.Core.Path.{_≡_}
@@ -11,7 +12,8 @@ use Rattle.escape.specs.Escape.{badEscape}
 use Rattle.profile.specs.Table.{Leaf}
 use Rattle.leaves.specs.declared.repetition.ReadRepetition.{ReadRepetition}
 use Rattle.checks.specs.Place.{Place, place}
-use Rattle.checks.specs.View.{entriesOf, isFilled}
+use Rattle.checks.specs.View.{isFilled}
+use Rattle.checks.specs.Repetition.{entriesOf}
 use Rattle.checks.specs.Fault.{Verdict, accepted, fault, leafChecks, repetitionChecks, firstBroken}
 
 -- a reason of nought: nothing is broken
@@ -30,10 +32,10 @@ TakesAny l n = (q : Marks) (s : Text) → length s ≡ n → badEscape q s ≡ f
 pub record ReadsMissing (ls : List Leaf) (filled : Bool) (r : ReadRepetition) : Type 0 where
   pub handed-on : r .filled ≡ filled
   pub first : (q : Marks) (n : Text) (o f k : ℕ) → told (place n o f k (r .component) (r .subcomponent)) (r .reason)
-      ≡ firstBroken (repetitionChecks q n o f (record { number = k; entries = entriesOf q false ls [] }))
+      ≡ firstBroken (repetitionChecks q n o f (record { number = k; entries = entriesOf q ls [] }))
 
 -- A REPETITION: whether it is filled, and its first broken check
 pub record ReadsRepetition (q : Marks) (ls : List Leaf) (s : Text) (r : ReadRepetition) : Type 0 where
-  pub filled : r .filled ≡ isFilled (entriesOf q false ls s)
+  pub filled : r .filled ≡ isFilled (entriesOf q ls s)
   pub first : (n : Text) (o f k : ℕ) → told (place n o f k (r .component) (r .subcomponent)) (r .reason)
-      ≡ firstBroken (repetitionChecks q n o f (record { number = k; entries = entriesOf q false ls s }))
+      ≡ firstBroken (repetitionChecks q n o f (record { number = k; entries = entriesOf q ls s }))

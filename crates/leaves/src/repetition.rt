@@ -48,7 +48,7 @@ pub fn missing_leaves(filled: bool, table: &[u16], rows: Rows) -> ReadRepetition
 }
 
 // Reads a repetition's listed leaves, components rising, each byte passed once on the way from component to component.
-// Behind the last component there is nothing to read.
+// After the last component there is nothing to read.
 pub fn read_repetition(s: &[u8], q: Marks, table: &[u16], rows: Rows) -> ReadRepetition
     requires { ⌜ Lists (now table) rows (leavesAt (now table) rows) ⌝ }
     ensures { λ r. ⌜ ReadsRepetition q (leavesAt (now (table .entry)) rows) (now (s .entry)) r ⌝ }

@@ -2,9 +2,10 @@
 ghost use mathlib.Core.Path.{_≡_};
 ghost use mathlib.Core.Bool.{true, false};
 ghost use Prim.Native.Nat.{_+_, _≤_};
-ghost use lib.ListN.{length, drop, getD};
+ghost use lib.ListN.{length, drop};
 ghost use Rattle.escape.specs.Escape.{badEscape};
-ghost use Rattle.profile.specs.Numbers.{leafOf, rowSize, reasonColumn};
+ghost use Rattle.profile.specs.Numbers.{leafOf, rowSize};
+ghost use Rattle.profile.specs.Order.{reasonFits};
 ghost use Rattle.leaves.specs.Judged.{ReadsLeaf, TakesAny};
 use checks::reasons;
 use codes::is_in_list;
@@ -18,7 +19,7 @@ use text::Marks;
 // seen that there is no escape says so.
 pub fn leaf_reason(s: &[u8], q: Marks, unescaped: bool, table: &[u16], at: usize) -> u8
     requires { ⌜ at + rowSize ≤ length (now table) ⌝ }
-    requires { ⌜ (1 ≤ getD (now table) (at + reasonColumn) 0) × (getD (now table) (at + reasonColumn) 0 ≤ 12) ⌝ }
+    requires { ⌜ reasonFits (leafOf (drop at (now table)) .list) ≡ true ⌝ }
     requires { ⌜ (unescaped ≡ true → badEscape q (now s) ≡ false) ⌝ }
     ensures { λ r. ⌜ ReadsLeaf q (leafOf (drop at (now (table .entry)))) (now (s .entry)) r ⌝ }
 {

@@ -1,4 +1,4 @@
--- The lines as they are written, one text behind another.
+-- The lines as they are written, one text after another.
 use mathlib.Core.Path.{_≡_, refl, sym, ap, _∙_}
 use Prim.Native.Nat.{ℕ}
 use mathlib.Core.List.{List, [], _∷_, _++_, append-assoc, append-nil}

@@ -1,7 +1,8 @@
+-- Inner: no entry's promise is made of this.
 -- What only inner functions promise and ask for.
 use Prim.Native.Nat.{ℕ, _+_, _≤_}
 use mathlib.Core.Path.{_≡_}
-use lib.ListN.{length, take}
+use lib.ListN.{length}
 use Rattle.text.specs.Bytes.{Text}
 use Rattle.text.specs.Puts.{Puts}
 
@@ -24,8 +25,3 @@ pub record PutsWithin (size : ℕ) (before : Text) (at : ℕ) (t after : Text) (
   pub puts : Puts before at t after r
   pub short : r ≤ at + size
   pub stays : length after ≡ length before
-
--- the first n bytes of a buffer are that text
-pub record Shows (n : ℕ) (out t : Text) : Type 0 where
-  pub inside : n ≤ length out
-  pub text : take n out ≡ t

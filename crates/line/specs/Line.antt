@@ -1,6 +1,9 @@
+-- The desk's programs promise this.
 -- What the desk's programs print, one line an answer.
-use Prim.Native.Nat.{ℕ}
+use Prim.Native.Nat.{ℕ, _≤_}
+use mathlib.Core.Path.{_≡_}
 use mathlib.Core.List.{List, [], _∷_, _++_}
+use lib.ListN.{length, take}
 use Rattle.text.specs.Bytes.{Text, bytes, byte}
 use Rattle.text.specs.Decimal.{decimal}
 use Rattle.text.specs.Answer.{Answer, refused, given, numberOf}
@@ -54,3 +57,8 @@ asLine t = t ++ newline ∷ []
 abbrev pub answerText : Answer Text → Text
 answerText (refused r) = asLine (refusedLine r)
 answerText (given t) = t
+
+-- the first n bytes of a buffer are that text
+pub record Shows (n : ℕ) (out t : Text) : Type 0 where
+  pub inside : n ≤ length out
+  pub text : take n out ≡ t

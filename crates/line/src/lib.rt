@@ -54,7 +54,7 @@ pub fn look_line(f: Found, out: &mut [u8]) -> usize
     }
 }
 
-// A blank and a number behind it.
+// A blank and a number after it.
 fn put_number(out: &mut [u8], at: usize, n: u64) -> usize
     requires { ⌜ at + numberSize ≤ length (now out) ⌝ }
     ensures { λ r. ⌜ PutsWithin numberSize (now (out .entry)) at (byte " " ∷ decimal n) (now (out .exit)) r ⌝ }

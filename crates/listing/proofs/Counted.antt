@@ -11,7 +11,7 @@ use lib.Dec.{eqb}
 use borrow.Author.Tests.{eq-eqb, eqb-true}
 use Rattle.text.specs.Bytes.{Text, pick, cr, keep, same, within}
 use Rattle.text.proofs.Tests.{same-true, same-length}
-use Rattle.parts.specs.Split.{reach}
+use Rattle.parts.specs.Start.{reach}
 use Rattle.parts.proofs.Descent.{within-length}
 use Rattle.parts.proofs.Reach.{ended-on}
 use Rattle.frame.specs.Segments.{segments, name}

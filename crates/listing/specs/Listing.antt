@@ -1,10 +1,11 @@
+-- Inner: no entry's promise is made of this.
 -- What only inner functions promise of listed segments: where one stands, how many of its name stand before it, and which is next.
 use Prim.Native.Nat.{ℕ, _+_, _-_, _≤_, _<_}
 use mathlib.Core.Path.{_≡_}
 use mathlib.Core.List.{[], _∷_, map}
 use lib.ListN.{length, getD, take, drop}
 use Rattle.text.specs.Bytes.{Text, cr, within}
-use Rattle.parts.specs.Split.{reach}
+use Rattle.parts.specs.Start.{reach}
 use Rattle.frame.specs.Segments.{segments, name}
 use Rattle.profile.specs.Table.{Table}
 use Rattle.profile.specs.Numbers.{segmentNumber}
@@ -24,7 +25,7 @@ countFrom m at n = count n (map name (segments (drop at m)))
 abbrev pub countBefore : Text → ℕ → Text → ℕ
 countBefore m at n = countFrom m 0 n - countFrom m at n
 
--- a segment starts there: behind a CR, or at the message's start, as if a CR stood before it
+-- a segment starts there: after a CR, or at the message's start, as if a CR stood before it
 abbrev pub Opens : Text → ℕ → Type 0
 Opens m at = getD (cr ∷ m) at 0 ≡ cr
 

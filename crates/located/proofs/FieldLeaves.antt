@@ -2,16 +2,17 @@
 use mathlib.Core.Path.{_≡_, sym, ap, subst, _∙_}
 use Prim.Native.Nat.{ℕ, _+_, _-_, _≤_, _<_}
 use native.Mathlib.Omega.{arith}
-use mathlib.Core.Bool.{Bool, true, false}
+use mathlib.Core.Bool.{false}
 use mathlib.Core.List.{List}
 use lib.ListN.{length, getD, drop}
 use lib.Seq.{take-take, getD-drop}
-use lib.Dec.{eqb}
-use Rattle.profile.specs.Numbers.{typeColumn, firstField, sureColumn}
-use Rattle.text.specs.Bytes.{Text, pick, within}
+use Rattle.profile.specs.Numbers.{typeColumn, firstField, firstNamer, sureColumn}
+use Rattle.text.specs.Bytes.{Text, within}
 use Rattle.text.specs.declared.marks.Marks.{Marks}
-use Rattle.parts.specs.Split.{split, piece, reach}
-use Rattle.parts.specs.Descent.{part, inField}
+use Rattle.parts.specs.Split.{split, piece}
+use Rattle.parts.specs.Start.{reach}
+use Rattle.parts.specs.Descent.{inField}
+use Rattle.parts.specs.Span.{partText}
 use Rattle.parts.proofs.Reach.{end-inside}
 use Rattle.parts.proofs.Descent.{within-length}
 use Rattle.cursor.proofs.Moving.{cursor, cursor-text, cursor-first}
@@ -20,7 +21,7 @@ use Rattle.profile.specs.Table.{Leaf}
 use Rattle.codes.specs.declared.rows.Rows.{Rows}
 use Rattle.codes.specs.Inner.{Lists, Ascends, IsField, leavesAt, leavesNamed}
 use Rattle.codes.proofs.OneField.{field-namer, leaves-plain, leaves-named}
-use Rattle.checks.specs.Place.{leafAt}
+use Rattle.checks.proofs.Leaf.{leaf-split}
 use Rattle.checks.specs.View.{namedIn}
 use Rattle.listing.specs.Listing.{HasNumber}
 use Rattle.located.specs.Listed.{leavesOfField}
@@ -56,8 +57,8 @@ module _ (q : Marks) (x : Text) (a b : ℕ) (first : a ≡ 0 + reach (q .repetit
     pub leaf-inside : e ≤ length x
     leaf-inside = omega (arith, second-inside, front-inside (q .subcomponent) x b e second-inside third)
 
-    pub leaf-first : within 0 e x ≡ part false (inField q 1 1 1) x
-    unfolding part
+    pub leaf-first : within 0 e x ≡ partText (inField q 1 1 1) x
+    unfolding partText
     leaf-first =
         let p : ℕ → Text → Text = λ sep y. piece 1 (split sep y) in
         front-text (q .subcomponent) x b e second-inside third
@@ -65,9 +66,8 @@ module _ (q : Marks) (x : Text) (a b : ℕ) (first : a ≡ 0 + reach (q .repetit
         ∙ ap (λ (y : Text). p (q .subcomponent) (p (q .component) y)) (first-text (q .repetition) x a first)
 
 -- a field that names a type has a number as any other
-number-step : (b : Bool) (n : ℕ) → pick b 13 11 ≤ n → pick b 3 1 ≤ n - 10
-number-step true n h = omega arith
-number-step false n h = omega arith
+number-step : (k n : ℕ) → firstNamer k ≤ n → firstField k ≤ n - 10
+number-step k n h = omega arith
 
 -- THE ROWS that list a field's leaves: its own
 module _ (q : Marks) (table : List ℕ) (s : Text) (k at end : ℕ) (is : IsField table k at end) where
@@ -86,18 +86,17 @@ module _ (q : Marks) (table : List ℕ) (s : Text) (k at end : ℕ) (is : IsFiel
 
   -- those of the type that another field names
   pub named-from : 10 ≤ getD table (at + typeColumn) 0 → firstField k ≤ getD table (at + typeColumn) 0 - 10
-  named-from l = number-step (eqb k 1) (getD table (at + typeColumn) 0) (field-namer table k at end is l)
+  named-from l = number-step k (getD table (at + typeColumn) 0) (field-namer table k at end is l)
 
   pub lists-named : (l : 10 ≤ getD table (at + typeColumn) 0) (r : Rows) → Lists table r (leavesNamed table (namedIn q s (getD table (at + typeColumn) 0 - 10))) → Lists table r (leavesOfField q table s at end)
   lists-named l r h = subst (λ (ls : List Leaf). Lists table r ls) (sym (leaves-named table k at end is l (namedIn q s))) h
 
 -- the type that a field names is its first leaf
 module _ (q : Marks) (table : List ℕ) (s : Text) (k : ℕ) (numbered : HasNumber s k) (namer : ℕ) (low : firstField k ≤ namer) where
-  named-text : (x : Text) → x ≡ field q s namer → part false (inField q 1 1 1) x ≡ namedIn q s namer
-  unfolding leafAt
-  named-text x e = rw (field-split s k numbered namer low, ← e)
+  named-text : (x : Text) → x ≡ field q s namer → partText (inField q 1 1 1) x ≡ namedIn q s namer
+  named-text x e = ap (partText (inField q 1 1 1)) e ∙ sym (leaf-split q s namer 1 1 1 (field-split s k numbered namer low))
 
-  pub lists-type : (r : Rows) (x : Text) → x ≡ field q s namer → (e : ℕ) → within 0 e x ≡ part false (inField q 1 1 1) x → Lists table r (leavesNamed table (within 0 e x))
+  pub lists-type : (r : Rows) (x : Text) → x ≡ field q s namer → (e : ℕ) → within 0 e x ≡ partText (inField q 1 1 1) x → Lists table r (leavesNamed table (within 0 e x))
       → Lists table r (leavesNamed table (namedIn q s namer))
   lists-type r x f e g h = subst (λ (ls : List Leaf). Lists table r ls) (ap (leavesNamed table) (g ∙ named-text x f)) h
 

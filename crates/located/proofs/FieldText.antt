@@ -15,7 +15,9 @@ use Rattle.text.specs.declared.marks.Marks.{Marks}
 use Rattle.parts.specs.Split.{split, piece}
 use Rattle.cursor.specs.Cursor.{IsPiece}
 use Rattle.cursor.specs.declared.Cursor.{Cursor}
-use Rattle.frame.specs.Segments.{name, isHeader, field, headerField, unsplit}
+use Rattle.frame.specs.Segments.{name, isHeader, field, unsplit}
+use Rattle.frame.specs.Starts.{headerField}
+use Rattle.frame.proofs.Segments.{field-header, field-other}
 use Rattle.listing.specs.Listing.{HasNumber}
 use Rattle.cursor.proofs.Moving.{cursor-text}
 use Rattle.codes.proofs.Numbered.{header-number}
@@ -49,11 +51,10 @@ third q s (suc (suc (suc i))) l =
 -- over whether the segment is the header
 text-step : (q : Marks) (s : Text) (f : ℕ) (b : Bool) → isHeader s ≡ b → pick b 3 1 ≤ f
     → field q s f ≡ piece (f - pick b 2 0) (split (q .field) (drop (pick b 9 4) s))
-unfolding field
-text-step q s f true e l = rw e (third q s f l)
+text-step q s f true e l = field-header q s f e ∙ third q s f l
 text-step q s f false e l =
     let z : f - 0 ≡ f = omega arith in
-    rw (e, z)
+    rw z (field-other q s f e)
 
 split-step : (s : Text) (f : ℕ) (b : Bool) → isHeader s ≡ b → pick b 3 1 ≤ f → unsplit s f ≡ false
 split-step s f true e l = rw (e, lt-leb f 2 l)

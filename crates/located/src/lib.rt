@@ -6,7 +6,8 @@ ghost use Prim.Native.Nat.{_+_, _≤_, min};
 ghost use lib.ListN.{length};
 ghost use Rattle.profile.specs.Numbers.{fieldsBefore, fieldsFrom, firstField};
 ghost use Rattle.text.specs.Bytes.{within};
-ghost use Rattle.parts.specs.Descent.{part, inField};
+ghost use Rattle.parts.specs.Descent.{inField};
+ghost use Rattle.parts.specs.Span.{partText};
 ghost use Rattle.frame.specs.Segments.{field};
 ghost use Rattle.codes.specs.Inner.{Lists, IsField, leavesNamed};
 ghost use Rattle.profile.specs.Order.{Sound};
@@ -23,7 +24,7 @@ use profile::columns;
 use profile::numbers;
 use text::Marks;
 
-// Where a segment's fields begin: the header's third behind its ninth byte, any other's first behind its name and one
+// Where a segment's fields begin: the header's third after its ninth byte, any other's first after its name and one
 // separator.
 pub fn fields_start(s: &[u8], k: u16) -> usize
     ensures { λ r. ⌜ r ≡ min (fieldsFrom k) (length (now (s .entry))) ⌝ }
@@ -66,7 +67,7 @@ pub fn field_text<'a>(s: &'a [u8], q: Marks, k: u16, number: u64) -> &'a [u8]
 // Where the first leaf of a field ends: the first subcomponent of the first component of its first repetition.
 fn first_leaf(x: &[u8], q: Marks) -> usize
     ensures { λ r. ⌜ r ≤ length (now (x .entry)) ⌝ }
-    ensures { λ r. ⌜ within 0 r (now (x .entry)) ≡ part false (inField q 1 1 1) (now (x .entry)) ⌝ }
+    ensures { λ r. ⌜ within 0 r (now (x .entry)) ≡ partText (inField q 1 1 1) (now (x .entry)) ⌝ }
 {
     let a = near_end(x, 0, q.repetition);
     let b = near_end(&x[0..a], 0, q.component);

@@ -1,7 +1,9 @@
 // The enquiry desk's look-up: a message on standard input, the place as arguments.
 use asked::Asked;
+use asked::number_at;
 use libc::STDIN_FILENO;
 use libc::STDOUT_FILENO;
+use numbers::place_asked;
 use reader::Found;
 use reader::Place;
 
@@ -10,17 +12,10 @@ enum Question {
     At(Place),
 }
 
-// Argument i as a number. A number of more than 4,096 digits is bad too.
-fn number_at(i: usize) -> Asked {
-    let mut word = io::buffer();
-    let n = os::arg(i, &mut word);
-    asked::asked_number(&word[..n])
-}
-
-// The place that the arguments name: a name of three bytes and five numbers.
+// The place that the arguments ask for: a name and five numbers. A name of more than three bytes comes as no bytes; neither is of the form, and
+// `place_asked` makes of both a place that is refused in its turn.
 fn asked_place() -> Question {
-    let mut name = [0u8; 3];
-    if (os::arg_count() != 7) | (os::arg(1, &mut name) != 3) {
+    if os::arg_count() != 7 {
         return Question::Bad;
     }
     let Asked::Number(occurrence) = number_at(2) else {
@@ -38,16 +33,12 @@ fn asked_place() -> Question {
     let Asked::Number(subcomponent) = number_at(6) else {
         return Question::Bad;
     };
-    Question::At(Place {
-        first: name[0],
-        second: name[1],
-        third: name[2],
-        occurrence,
-        field,
-        repetition,
-        component,
-        subcomponent,
-    })
+    let mut name = [0u8; 3];
+    let n = os::arg(1, &mut name);
+    Question::At(place_asked(
+        &name[..n],
+        &[occurrence, field, repetition, component, subcomponent],
+    ))
 }
 
 // The line that tells what stands at the place, and below it the text, if there is one.

@@ -31,7 +31,7 @@ no-name (a ∷ b ∷ []) n = refl
 no-name (a ∷ b ∷ c ∷ []) n = absurd (n refl)
 no-name (a ∷ b ∷ c ∷ d ∷ t) n = refl
 
--- behind a refusal that applies nothing matters
+-- after a refusal that applies nothing matters
 behind : {A : Type 0} (ts us vs : List Test) (r : Refusal) (a b : A)
     → first (ts ++ (test r true ∷ us)) a ≡ first (ts ++ (test r true ∷ vs)) b
 unfolding first

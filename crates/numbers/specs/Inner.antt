@@ -1,4 +1,5 @@
--- What a function inside promises; no entry's promise is made of it.
+-- Inner: no entry's promise is made of this.
+-- What a function inside promises.
 use mathlib.Core.Path.{_≡_}
 use Rattle.text.specs.Bytes.{Text}
 use Rattle.reader.specs.Place.{Place}

@@ -1,3 +1,4 @@
+-- An entry's promise is made of this.
 -- How an answer is told to a caller of C or Rust: by the number that is returned, and by numbers in a lent list.
 use Prim.Native.Nat.{ℕ}
 use mathlib.Core.Path.{_≡_}

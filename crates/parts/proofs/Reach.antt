@@ -11,7 +11,8 @@ use lib.Dec.{eqb}
 use borrow.Author.Tests.{eq-eqb, ne-eqb, eqb-false}
 use Rattle.text.specs.Bytes.{Text, pick}
 use Rattle.text.proofs.Lists.{or-none}
-use Rattle.parts.specs.Split.{front, split, before, reach, ended}
+use Rattle.parts.specs.Split.{front, split, ended}
+use Rattle.parts.specs.Start.{before, reach}
 use Rattle.parts.proofs.Join.{Some, split-some}
 
 module _ (sep : ℕ) where
@@ -35,7 +36,7 @@ module _ (sep : ℕ) where
   first-length [] = refl
   first-length (b ∷ t) = first-step b (eqb b sep) (split sep t) (reach sep t) (split-some sep t) (first-length t)
 
-  -- a separator is ahead: it ends the first piece, and the rest is cut behind it
+  -- a separator is ahead: it ends the first piece, and the rest is cut after it
   next-step : (b : ℕ) (t : Text) (c : Bool)
       → (reach sep t < length t → split sep t ≡ take (reach sep t) t ∷ split sep (drop (suc (reach sep t)) t))
       → pick c 0 (suc (reach sep t)) < suc (length t)

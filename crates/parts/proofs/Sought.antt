@@ -6,7 +6,8 @@ use mathlib.Core.List.{List, []}
 use lib.ListN.{length, getD, drop}
 use Rattle.text.specs.Bytes.{Text}
 use Rattle.parts.specs.declared.Span.{Span}
-use Rattle.parts.specs.Split.{split, piece, before, start, reach}
+use Rattle.parts.specs.Split.{split, piece}
+use Rattle.parts.specs.Start.{before, start, reach}
 use Rattle.parts.specs.Span.{span}
 use Rattle.parts.proofs.Split.{before-first}
 use Rattle.parts.proofs.Reach.{first-length, end-inside, split-on, before-on, split-end, before-end}

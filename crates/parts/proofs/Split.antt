@@ -9,9 +9,10 @@ use lib.ListN.{length, getD, take, drop, take-append-drop, length-take, length-d
 use lib.Seq.{drop-drop, take-append-seam}
 use lib.Dec.{eqb}
 use Rattle.text.specs.Bytes.{Text, pick}
-use Rattle.parts.specs.Split.{front, split, piece, before, start}
+use Rattle.parts.specs.Split.{front, split, piece}
+use Rattle.parts.specs.Start.{before, start}
 
--- where a text stands in another: behind so many bytes
+-- where a text stands in another: after so many bytes
 abbrev pub Stands : Text → ℕ → Text → Type 0
 Stands t k p = take (length p) (drop k t) ≡ p
 
@@ -51,7 +52,7 @@ unfolding before
 before-first sep [] = refl
 before-first sep (b ∷ t) = refl
 
--- the piece that has i pieces before it stands behind the bytes before it, told by whether the first byte is a separator
+-- the piece that has i pieces before it stands after the bytes before it, told by whether the first byte is a separator
 stands-step : (sep b : ℕ) (t : Text) (c : Bool) (i : ℕ) → ((j : ℕ) → Stands t (before sep t j) (getD (split sep t) j []))
     → Stands t (before sep t (pick c i (suc i))) (getD (front c b (split sep t)) (suc i) [])
 stands-step sep b t true i ih = ih i

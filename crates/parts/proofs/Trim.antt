@@ -33,7 +33,7 @@ pub trimmed-join : (sep : ℕ) (p : Text) (ps : List Text) → join sep (trimmed
 unfolding trimmed
 trimmed-join sep p ps = join-step sep p (trimmed ps)
 
--- ANY OTHER is written behind its separator where it has bytes, or where something is left of those behind it
+-- ANY OTHER is written after its separator where it has bytes, or where something is left of those after it
 module _ (p : Text) (ps : List Text) {filled left : Bool} (f : not (empty p) ≡ filled) (l : not (empty (trimmed ps)) ≡ left) where
   pub trimmed-led : (sep : ℕ) → led sep (trimmed (p ∷ ps)) ≡ pick (left || filled) (sep ∷ p) [] ++ led sep (trimmed ps)
   unfolding trimmed

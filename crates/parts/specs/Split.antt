@@ -1,8 +1,9 @@
+-- An entry's promise is made of this.
 -- The one splitting rule: a text is cut at each separator into pieces, numbered from 1.
-use Prim.Native.Nat.{ℕ, zero, suc}
+use Prim.Native.Nat.{ℕ, zero, suc, _+_, _-_}
 use mathlib.Core.Bool.{Bool, true, false, _&&_}
 use mathlib.Core.List.{List, [], _∷_, _++_, dropLast}
-use lib.ListN.{getD}
+use lib.ListN.{length, getD, take}
 use lib.Dec.{eqb}
 use Rattle.text.specs.Bytes.{Text, pick, empty}
 
@@ -17,28 +18,12 @@ unfoldable pub split : ℕ → Text → List Text
 split sep [] = [] ∷ []
 split sep (b ∷ t) = front (eqb b sep) b (split sep t)
 
--- how many bytes stand before the first separator; all of them where there is none
-unfoldable pub reach : ℕ → Text → ℕ
-reach sep [] = 0
-reach sep (b ∷ t) = pick (eqb b sep) 0 (suc (reach sep t))
-
 -- piece number n: no bytes where there is none
 abbrev pub piece : ℕ → List Text → Text
 piece zero ps = []
 piece (suc i) ps = getD ps i []
 
--- how many bytes stand before the piece that has i pieces before it; all of them where there is no such piece
-unfoldable pub before : ℕ → Text → ℕ → ℕ
-before sep [] i = 0
-before sep (b ∷ t) zero = 0
-before sep (b ∷ t) (suc i) = suc (before sep t (pick (eqb b sep) i (suc i)))
-
--- where piece number n of a text starts
-abbrev pub start : ℕ → ℕ → Text → ℕ
-start sep zero t = 0
-start sep (suc i) t = before sep t i
-
--- the pieces that a separator ends: all but what stands behind the last separator
+-- the pieces that a separator ends: all but what stands after the last separator
 unfoldable pub ended : ℕ → Text → List Text
 ended sep t = dropLast (split sep t)
 
@@ -54,6 +39,24 @@ join sep (p ∷ ps) = p ++ led sep ps
 unfoldable pub closed : ℕ → List Text → Text
 closed sep [] = []
 closed sep (p ∷ ps) = p ++ sep ∷ closed sep ps
+
+-- a text, and where it starts in the message
+pub record Located : Type 0 where
+  pub start : ℕ
+  pub text : Text
+
+-- a text that is all there is; nothing
+abbrev pub whole : Text → Located
+whole t = record { start = 0; text = t }
+
+abbrev pub nothing : Located
+nothing = whole []
+
+-- PIECE NUMBER n WITH ITS START: before it stand the pieces before it, each with its separator
+abbrev pub inside : ℕ → ℕ → Located → Located
+inside sep n t =
+    let ps = split sep (t .text) in
+    record { start = t .start + length (closed sep (take (n - 1) ps)); text = piece n ps }
 
 -- empty texts at the end dropped
 unfoldable pub trimmed : List Text → List Text

@@ -3,10 +3,10 @@ ghost use mathlib.Core.Path.{_≡_};
 ghost use mathlib.Core.Bool.{false};
 ghost use Prim.Native.Nat.{_+_, _≤_};
 ghost use lib.ListN.{length, drop};
-ghost use Rattle.parts.specs.Split.{split, start, reach};
-ghost use Rattle.parts.specs.Descent.{part, partStart};
+ghost use Rattle.parts.specs.Split.{split};
+ghost use Rattle.parts.specs.Start.{start, reach};
 ghost use Rattle.text.specs.Bytes.{within};
-ghost use Rattle.parts.specs.Span.{span, markAtDepth, numberAtDepth, stepsFrom};
+ghost use Rattle.parts.specs.Span.{span, partText, partStart, markAtDepth, numberAtDepth, stepsFrom};
 use text::Marks;
 
 // The bytes from start up to, not including, end.
@@ -156,7 +156,7 @@ fn number(n: Numbers, depth: usize) -> u64
 // Inner: the callers hold that from and to lie in m.
 pub fn descend(m: &[u8], from: usize, to: usize, q: Marks, n: Numbers, depth: usize) -> Span
     requires { ⌜ (from ≤ to) × (to ≤ length (now m)) ⌝ }
-    ensures { λ r. ⌜ r ≡ span (from + partStart false (stepsFrom q n depth) (within from to (now (m .entry)))) (part false (stepsFrom q n depth) (within from to (now (m .entry)))) ⌝ }
+    ensures { λ r. ⌜ r ≡ span (from + partStart (stepsFrom q n depth) (within from to (now (m .entry)))) (partText (stepsFrom q n depth) (within from to (now (m .entry)))) ⌝ }
 {
     if depth == 0 {
         return Span {

@@ -6,7 +6,8 @@ use mathlib.Core.List.{List, []}
 use lib.ListN.{length, getD}
 use Rattle.text.specs.Bytes.{Text, within}
 use Rattle.text.specs.declared.marks.Marks.{Marks}
-use Rattle.parts.specs.Split.{split, before}
+use Rattle.parts.specs.Split.{split}
+use Rattle.parts.specs.Start.{before}
 use Rattle.cursor.specs.Cursor.{IsPiece}
 use Rattle.cursor.proofs.Moving.{cursor}
 use Rattle.profile.specs.Numbers.{rowSize, fieldColumn, usageColumn, fieldsBefore, fieldsFrom}

@@ -1,3 +1,4 @@
+-- Inner: no entry's promise is made of this.
 -- What only a quick test speaks of: segments that have no byte in their fields.
 use Prim.Native.Nat.{ℕ, _≤_}
 use mathlib.Core.List.{List}

@@ -1,3 +1,4 @@
+-- Inner: no entry's promise is made of this.
 -- What only inner functions promise: whether a segment's own fields break something.
 use mathlib.Core.Path.{_≡_}
 use mathlib.Core.Bool.{Bool, true, false}

@@ -2,20 +2,21 @@
 use Prim.Native.Nat.{ℕ}
 use mathlib.Core.Path.{_≡_, refl}
 use mathlib.Core.Bool.{true, false}
-use mathlib.Core.List.{List, [], _∷_}
+use mathlib.Core.List.{List, [], _∷_, flatMap}
 use Rattle.text.specs.Bytes.{bytes, every, some, same}
 use Rattle.profile.specs.Table.{ST, Listed, leaf, named-by, O, Row, Table}
 use Rattle.profile.specs.Leaves.{component}
-use Rattle.profile.specs.Rows.{rows}
+use Rattle.profile.specs.Noted.{noted}
+use Rattle.profile.specs.Fields.{rows}
 use Rattle.profile.specs.Profile.{profile01}
 use Rattle.profile.specs.Fit.{fit, hasCopies}
 
 pub profile-fit : fit profile01 ≡ true
-unfolding fit every some same profile01 rows
+unfolding flatMap fit every some same profile01 noted rows
 profile-fit = refl
 
 pub profile-copies : hasCopies profile01 ≡ true
-unfolding hasCopies every some same profile01 rows
+unfolding flatMap hasCopies every some same profile01 noted rows
 profile-copies = refl
 
 -- a table of one segment

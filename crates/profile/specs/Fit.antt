@@ -1,3 +1,4 @@
+-- A demand is said with this.
 -- What a table must be for demand 3.
 use Prim.Native.Nat.{ℕ}
 use Prim.Native.String as string
@@ -22,13 +23,14 @@ abbrev pub namerListed : Table → Text → Listed → Bool
 namerListed T n (leaf l) = true
 namerListed T n (named-by f) = hasRow T n f 1
 
--- repetition numbers are from 1
-abbrev pub mayRepeat : Row → Bool
-mayRepeat r = leb 1 (r .repetitions)
+-- each field may have at least one repetition
+abbrev pub allowsOne : Row → Bool
+allowsOne r = leb 1 (r .repetitions)
 
 abbrev pub rowFit : Table → Row → Bool
-rowFit T r = mayRepeat r && namerListed T (r .segment) (r .lists)
+rowFit T r = allowsOne r && namerListed T (r .segment) (r .lists)
 
+-- EACH ROW FITS. Demand 3 is of tables that are fit and have the rows of what is copied (below)
 unfoldable pub fit : Table → Bool
 fit T = every (rowFit T) (T .rows)
 
@@ -41,7 +43,7 @@ pub record Copied : Type 0 where
 abbrev pub copied : string.String → ℕ → ℕ → Copied
 copied n f c = record { segment = bytes n; field = f; component = c }
 
--- the leaves that replies and slips copy; OBX is counted, so it is among them by its OBX-2
+-- the leaves that replies and slips copy; OBX is counted for tag 6, so the table must name it: OBX-2 stands for that, any row of OBX would do
 abbrev pub copies : List Copied
 copies =
     copied "MSH" 3 1
@@ -65,5 +67,6 @@ copies =
     ∷ copied "OBX" 2 1
     ∷ []
 
+-- THE ROWS OF WHAT IS COPIED are there
 unfoldable pub hasCopies : Table → Bool
 hasCopies T = every (λ (c : Copied). hasRow T (c .segment) (c .field) (c .component)) copies

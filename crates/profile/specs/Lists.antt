@@ -1,7 +1,10 @@
--- The lists of allowed codes, compared as written.
+-- An entry's promise is made of this.
+-- 01's lists, compared as written.
 use Prim.Native.String as string
 use mathlib.Core.List.{List, [], _∷_}
 use Rattle.text.specs.Bytes.{Text, bytes}
+use Rattle.profile.specs.Table.{Codes, only}
+use Rattle.profile.specs.Noted.{Noted, at}
 
 -- one code; codes of one letter each
 abbrev pub code : string.String → List Text
@@ -14,35 +17,25 @@ oneEach (b ∷ t) = (b ∷ []) ∷ oneEach t
 abbrev pub letters : string.String → List Text
 letters s = oneEach (bytes s)
 
--- MSH-9.1, MSH-9.2, MSH-11.1, MSH-12.1
-abbrev pub message-types : List Text
-message-types = code "ORU"
-
-abbrev pub events : List Text
-events = code "R01"
-
+-- two that are asked for elsewhere too: of MSH-11.1 by a reply; of OBX-2 for the types that it may name
 abbrev pub processing-ids : List Text
 processing-ids = letters "DPT"
-
-abbrev pub versions : List Text
-versions = code "2.5.1"
-
--- PID-8, PID-24, ORC-1, OBR-25, OBX-2, OBX-11
-abbrev pub sexes : List Text
-sexes = letters "AFMNOU"
-
-abbrev pub yes-no : List Text
-yes-no = letters "YN"
-
-abbrev pub order-controls : List Text
-order-controls = code "RE"
-
-abbrev pub result-statuses : List Text
-result-statuses = letters "ACFIOPRSXYZ"
 
 abbrev pub value-types : List Text
 value-types =
     bytes "CE" ∷ bytes "DTM" ∷ bytes "FT" ∷ bytes "NM" ∷ bytes "SN" ∷ bytes "ST" ∷ bytes "TM" ∷ bytes "TX" ∷ []
 
-abbrev pub observation-statuses : List Text
-observation-statuses = letters "CDFINOPRSUWX"
+-- THE LISTS: segment, field, component; the codes; the reason where a text is none of them
+abbrev pub lists : List (Noted Codes)
+lists =
+    at "MSH" 9 1 (only (code "ORU") 9)
+    ∷ at "MSH" 9 2 (only (code "R01") 10)
+    ∷ at "MSH" 11 1 (only processing-ids 11)
+    ∷ at "MSH" 12 1 (only (code "2.5.1") 12)
+    ∷ at "PID" 8 1 (only (letters "AFMNOU") 8)
+    ∷ at "PID" 24 1 (only (letters "YN") 8)
+    ∷ at "ORC" 1 1 (only (code "RE") 8)
+    ∷ at "OBR" 25 1 (only (letters "ACFIOPRSXYZ") 8)
+    ∷ at "OBX" 2 1 (only value-types 8)
+    ∷ at "OBX" 11 1 (only (letters "CDFINOPRSUWX") 8)
+    ∷ []

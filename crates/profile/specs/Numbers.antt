@@ -1,13 +1,16 @@
+-- Inner: no entry's promise is made of this.
 -- A table as the machine has it: an index, then the rows. The rows of the segments stand under the numbers 1 to 7; under 8 to 15 stand the leaves of
 -- the types that a field may name, in the order of OBX-2's list, and under 16 those where it names none.
-use Prim.Native.Nat.{ℕ, zero, suc, _-_, _/_}
+use Prim.Native.Nat.{ℕ, zero, suc, _+_, _-_, _/_}
 use mathlib.Core.Path.{_≡_}
+use mathlib.Core.Bool.{Bool, true}
 use mathlib.Core.List.{List, [], _∷_, _++_, map}
 use lib.ListN.{getD, drop}
 use lib.Dec.{eqb, ltb}
-use Rattle.text.specs.Bytes.{Text, pick, bytes, same}
+use Rattle.text.specs.Bytes.{Text, pick, bytes, same, isOne}
 use Rattle.profile.specs.Table.{Simple, SI, NM, DTM, TM, ST, TX, FT, ID, IS, Codes, any, only, Leaf, Listed, leaf, named-by, Usage, O, R, C, Row, Type-leaves, Table}
-use Rattle.profile.specs.Lists.{message-types, events, processing-ids, versions, sexes, yes-no, order-controls, result-statuses, value-types, observation-statuses}
+use Rattle.profile.specs.Noted.{Noted}
+use Rattle.profile.specs.Lists.{value-types, lists}
 use Rattle.profile.specs.Profile.{succession, ends}
 
 -- how many numbers a row has, and what they are: its columns, counted from 0
@@ -69,13 +72,14 @@ noType = 16
 abbrev pub namedBy : ℕ
 namedBy = 10
 
--- the first field of a segment with that number that a row may list, since MSH-1 and MSH-2 are the header's separators; how many fields stand before it,
--- and from which byte on they stand
+-- the first field of a segment with that number that a row may list, since MSH-1 and MSH-2 are the header's separators; as the field that names a type;
+-- how many fields stand before it; and from which byte on they stand: after the header's nine bytes, or the four of another segment's name and separator, which
+-- frame calls headerSize and openingSize
 abbrev pub firstField : ℕ → ℕ
 firstField k = pick (eqb k headerNumber) 3 1
 
 abbrev pub firstNamer : ℕ → ℕ
-firstNamer k = pick (eqb k headerNumber) 13 11
+firstNamer k = namedBy + firstField k
 
 abbrev pub fieldsBefore : ℕ → ℕ
 fieldsBefore k = pick (eqb k headerNumber) 2 0
@@ -83,28 +87,26 @@ fieldsBefore k = pick (eqb k headerNumber) 2 0
 abbrev pub fieldsFrom : ℕ → ℕ
 fieldsFrom k = pick (eqb k headerNumber) 9 4
 
--- segments and lists by number, from 1
+-- segments and lists by number, from 1, in 01's order
 abbrev pub segmentNames : List Text
 segmentNames =
     bytes "MSH" ∷ bytes "PID" ∷ bytes "NK1" ∷ bytes "ORC" ∷ bytes "OBR" ∷ bytes "OBX" ∷ bytes "NTE" ∷ []
 
-abbrev pub codeLists : List (List Text)
-codeLists =
-    message-types
-    ∷ events
-    ∷ processing-ids
-    ∷ versions
-    ∷ sexes
-    ∷ yes-no
-    ∷ order-controls
-    ∷ result-statuses
-    ∷ value-types
-    ∷ observation-statuses
-    ∷ []
+abbrev pub codesIn : Codes → List Text
+codesIn any = []
+codesIn (only codes n) = codes
 
-abbrev pub codesOf : ℕ → Codes
-codesOf zero = any
-codesOf (suc i) = only (getD codeLists i [])
+abbrev pub codeLists : List (List Text)
+codeLists = map (λ (x : Noted Codes). codesIn (x .says)) lists
+
+-- the list with that number, 0 for none, and its reason; a text that such a list takes
+abbrev pub codesOf : ℕ → ℕ → Codes
+codesOf zero n = any
+codesOf (suc i) n = only (getD codeLists i []) n
+
+abbrev pub isInList : ℕ → Text → Bool
+isInList zero t = true
+isInList (suc i) t = isOne t (getD codeLists i [])
 
 abbrev pub usageOf : ℕ → Usage
 usageOf zero = O
@@ -125,8 +127,7 @@ leafOf r =
       type = simpleOf (getD r typeColumn 0);
       star = eqb (getD r starColumn 0) 1;
       limit = getD r limitColumn 0;
-      list = codesOf (getD r listColumn 0);
-      reason = getD r reasonColumn 0;
+      list = codesOf (getD r listColumn 0) (getD r reasonColumn 0);
     }
 
 abbrev pub listedOf : List ℕ → Listed

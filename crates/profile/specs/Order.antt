@@ -1,3 +1,4 @@
+-- Inner: no entry's promise is made of this.
 -- The table's rule: what the code that reads a lent table relies on. It is tested once, over the whole table.
 use Prim.Native.Nat.{ℕ, suc, _+_, _*_, _-_, _/_}
 use mathlib.Core.Path.{_≡_}
@@ -8,7 +9,7 @@ use lib.Dec.{eqb, leb, ltb}
 use Rattle.text.specs.Bytes.{pick, every}
 use Rattle.text.specs.Limits.{_to_, isWithin}
 use Rattle.profile.specs.Table.{Simple, SI, NM, DTM, TM, ST, TX, FT, ID, IS, Codes, any, only, Leaf}
-use Rattle.profile.specs.Numbers.{rowSize, segmentColumn, fieldColumn, componentColumn, subcomponentColumn, repetitionsColumn, typeColumn, reasonColumn, nextColumn, sureColumn, firstType, noType, namedBy, firstField, firstNamer, leafOf, rowsWithin, begin, under}
+use Rattle.profile.specs.Numbers.{rowSize, segmentColumn, fieldColumn, componentColumn, subcomponentColumn, repetitionsColumn, typeColumn, nextColumn, sureColumn, firstType, noType, namedBy, firstField, firstNamer, leafOf, rowsWithin, begin, under}
 
 -- a row's place as one number: segment, field, component, subcomponent
 abbrev pub rankOf : List ℕ → ℕ
@@ -28,17 +29,21 @@ rises rs = rising (map rankOf rs)
 abbrev pub small : List ℕ → Bool
 small r = ltb (getD r fieldColumn 0) 256 && ltb (getD r componentColumn 0) 256 && ltb (getD r subcomponentColumn 0) 256
 
--- a row whose type another field names, and one that lists a leaf: component and reason are numbers from 1
+-- a row whose type another field names, and one that lists a leaf: its component is a number from 1, and its reason, where it has a list, one from 1 to 12
 abbrev pub isNamed : List ℕ → Bool
 isNamed r = leb namedBy (getD r typeColumn 0)
 
+abbrev pub reasonFits : Codes → Bool
+reasonFits any = true
+reasonFits (only codes n) = isWithin (1 to 12) n
+
 abbrev pub listsLeaf : List ℕ → Bool
-listsLeaf r = not (isNamed r) && leb 1 (getD r componentColumn 0) && isWithin (1 to 12) (getD r reasonColumn 0)
+listsLeaf r = not (isNamed r) && leb 1 (getD r componentColumn 0) && reasonFits (leafOf r .list)
 
 -- a field's number is one from 1; of the header from 3, since MSH-1 and MSH-2 are its separators. A type's rows are of one field
 abbrev pub fieldFits : List ℕ → Bool
 fieldFits r =
-    leb (firstField (getD r segmentColumn 0)) (getD r fieldColumn 0) && (ltb (getD r segmentColumn 0) firstType || eqb (getD r fieldColumn 0) 1 && not (isNamed r))
+    leb (firstField (getD r segmentColumn 0)) (getD r fieldColumn 0) && (ltb (getD r segmentColumn 0) firstType || (eqb (getD r fieldColumn 0) 1 && not (isNamed r)))
 
 -- a row whose type another field names has type 10 and that field's number: one from 1, of the header from 3
 abbrev pub namerFits : List ℕ → Bool
@@ -79,7 +84,7 @@ takesAny IS = true
 
 abbrev pub hasNoList : Codes → Bool
 hasNoList any = true
-hasNoList (only l) = false
+hasNoList (only codes n) = false
 
 abbrev pub takesUpTo : ℕ → Leaf → Bool
 takesUpTo n l =
@@ -93,8 +98,8 @@ takesUpTo n l =
 abbrev pub isSure : List ℕ → List (List ℕ) → Bool
 isSure r rs =
     eqb (getD r sureColumn 0) 0
-    || eqb (getD r componentColumn 0) 1
-    && every (λ (x : List ℕ). takesUpTo (getD r sureColumn 0) (leafOf x)) (take (ofField (getD r fieldColumn 0) (r ∷ rs)) (r ∷ rs))
+    || (eqb (getD r componentColumn 0) 1
+    && every (λ (x : List ℕ). takesUpTo (getD r sureColumn 0) (leafOf x)) (take (ofField (getD r fieldColumn 0) (r ∷ rs)) (r ∷ rs)))
 
 -- both hold of each of these rows, the first of which begins at that place
 unfoldable pub guides : ℕ → List (List ℕ) → Bool
@@ -104,7 +109,7 @@ guides at (r ∷ rs) = leads at r rs && isSure r rs && guides (at + rowSize) rs
 abbrev pub numbers : List ℕ
 numbers = 1 ∷ 2 ∷ 3 ∷ 4 ∷ 5 ∷ 6 ∷ 7 ∷ 8 ∷ 9 ∷ 10 ∷ 11 ∷ 12 ∷ 13 ∷ 14 ∷ 15 ∷ 16 ∷ []
 
--- the rows behind the index; under each number some begin and end among them, whole rows apart, and guide the reader through them
+-- the rows after the index; under each number some begin and end among them, whole rows apart, and guide the reader through them
 abbrev pub behind : ℕ
 behind = noType + 2
 

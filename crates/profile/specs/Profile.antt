@@ -1,10 +1,11 @@
+-- An entry's promise is made of this.
 -- The depot's own table: the rows, the leaves of the types that OBX-2 may name, the succession and the ends.
 use Prim.Native.String as string
 use mathlib.Core.List.{List, [], _∷_, map}
 use Rattle.text.specs.Bytes.{Text, bytes}
 use Rattle.profile.specs.Table.{NM, DTM, TM, ST, TX, FT, Leaf, Type-leaves, Succession, Table}
 use Rattle.profile.specs.Leaves.{simple, CE, SN}
-use Rattle.profile.specs.Rows.{rows}
+use Rattle.profile.specs.Fields.{rows}
 
 abbrev pub typed : string.String → List Leaf → Type-leaves
 typed s ls = record { type = bytes s; leaves = ls }

@@ -1,3 +1,4 @@
+-- An entry's promise is made of this.
 -- A table: a row for each listed leaf, which types a field may name, and which segment may follow which.
 use Prim.Native.Nat.{ℕ}
 use mathlib.Core.Bool.{Bool, true, _&&_}
@@ -21,26 +22,10 @@ ofType FT t = true
 ofType ID t = true
 ofType IS t = true
 
--- limits in written bytes
-abbrev pub limitOf : Simple → ℕ
-limitOf SI = 4
-limitOf NM = 16
-limitOf DTM = 24
-limitOf TM = 16
-limitOf ST = 199
-limitOf TX = 4096
-limitOf FT = 4096
-limitOf ID = 20
-limitOf IS = 20
-
--- any text, or one of a list
+-- any text; or one of a list, and the reason where it is none of them
 pub data Codes : Type 0 where
   any : Codes
-  only : List Text → Codes
-
-abbrev pub among : Codes → Text → Bool
-among any t = true
-among (only l) t = isOne t l
+  only : List Text → ℕ → Codes
 
 pub record Leaf : Type 0 where
   pub component : ℕ
@@ -50,8 +35,6 @@ pub record Leaf : Type 0 where
   pub star : Bool
   pub limit : ℕ
   pub list : Codes
-  -- the reason where the text is not in the list
-  pub reason : ℕ
 
 -- what a row lists: one leaf, or the leaves of the type that another field's first repetition names
 pub data Listed : Type 0 where
@@ -104,7 +87,7 @@ mayFollow T last n = some (λ (s : Succession). same (s .segment) last && isOne 
 abbrev pub mayEnd : Table → Text → Bool
 mayEnd T last = isOne last (T .ends)
 
--- a listed field: what its rows say, the first of them of usage and repetitions
+-- a listed field: what its rows list; its usage and repetitions are those of its first row
 pub record Rule : Type 0 where
   pub field : ℕ
   pub usage : Usage

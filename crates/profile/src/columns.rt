@@ -15,6 +15,7 @@ pub const STAR: usize = 7;
 
 pub const LIMIT: usize = 8;
 
+// The number of the leaf's list, and the reason where a text is not in it; both are 0 where there is no list.
 pub const LIST: usize = 9;
 
 pub const REASON: usize = 10;

@@ -9,7 +9,8 @@ mod table;
 
 use table::PROFILE;
 
-// The table, to be lent to whatever reads one: an entry takes it once. Inner: what its promise leaves open, no reader of a table looks at.
+// The table, to be lent to whatever reads one: an entry takes it once. Inner: its promise leaves open the numbers that say nothing of the table, and no
+// answer depends on them (docs/ENTRIES.md).
 pub fn profile() -> [u16; 1448]
     ensures rows { λ r. ⌜ AreTable r profile01 ⌝ }
     ensures rule { λ r. ⌜ Sound r ⌝ }

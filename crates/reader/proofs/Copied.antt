@@ -6,13 +6,11 @@ use mathlib.Core.Bool.{true}
 use mathlib.Core.List.{List, []}
 use lib.ListN.{length, List·getD-eq-default}
 use borrow.Author.Tests.{ltb-true}
-use Rattle.text.specs.Bytes.{Text, same}
-use Rattle.text.specs.declared.marks.Marks.{Marks}
+use Rattle.text.specs.Bytes.{Text}
 use Rattle.text.specs.Marks.{marksOf}
 use Rattle.parts.specs.Split.{piece}
-use Rattle.parts.specs.Descent.{inField}
-use Rattle.parts.proofs.Descent.{piece-nil, part-nil}
-use Rattle.frame.specs.Segments.{segments, ofName, fewer, occurrence, field}
+use Rattle.frame.specs.Segments.{segments, ofName, fewer, occurrence}
+use Rattle.checks.proofs.Stands.{text-is}
 use Rattle.checks.specs.Place.{place, leafAt, textAt}
 use Rattle.reader.specs.declared.standing.Standing.{Standing}
 use Rattle.reader.specs.declared.standing.Standing.the-variants.{Missing, Segment}
@@ -22,11 +20,6 @@ use Rattle.reader.proofs.Seek.{standing-missing, standing-inside, stand
 -- the segment that stands there lies in the message
 pub stood-inside : (m : Text) (s : Standing) (a e : ℕ) → s ≡ Segment a e → Stood m s → (a ≤ e) × (e ≤ length m)
 stood-inside m s a e g w = subst (Stood m) g w
-
--- of no segment there is no leaf
-pub leaf-none : (q : Marks) (f r c b : ℕ) → leafAt q [] f r c b ≡ []
-unfolding leafAt field same
-leaf-none q f r c b = rw (piece-nil (q .field) f) (part-nil (inField q r c b))
 
 -- a segment that is missing
 piece-none : (l : List Text) (o : ℕ) → length l < o → piece o l ≡ []
@@ -49,5 +42,4 @@ module _ (m n : Text) (o : ℕ) where
   -- THE TEXT that is copied from it is the text at the place
   pub copied-text : (s : Standing) (f c : ℕ) → s ≡ standing m n o
       → leafAt (marksOf m) (segmentText m s) f 1 c 1 ≡ textAt m (place n o f 1 c 1)
-  unfolding textAt
-  copied-text s f c h = rw (standing-bytes s h)
+  copied-text s f c h = rw (standing-bytes s h) (sym (text-is m (place n o f 1 c 1)))

@@ -1,5 +1,6 @@
 pub use Rattle.cutting.proofs.Cutting
 pub use Rattle.seek.proofs.Lying
+pub use Rattle.checks.proofs.Leaf
 pub use Rattle.checks.proofs.Stands
 pub use Rattle.checks.proofs.Filled
 pub use Rattle.accepted.proofs.EachCheck

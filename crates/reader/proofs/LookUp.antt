@@ -31,8 +31,9 @@ use Rattle.checks.specs.LookUp.{Found, Empty, Text-from-to, shown, found, tooFe
 use Rattle.seek.specs.Inner.{leafFound}
 use Rattle.reader.specs.Told.{placeOf, foundOf}
 use Rattle.reader.specs.Inner.{Inside}
-use Rattle.checks.proofs.Stands.{text-stands}
-use Rattle.checks.specs.Place.{Place, isPlace, textAt, startAt}
+use Rattle.checks.proofs.Stands.{text-is, text-stands, found-is}
+use Rattle.checks.specs.Place.{Place, isPlace, textAt}
+use Rattle.checks.specs.Starts.{startAt}
 
 -- the text that an answer names lies in the message
 pub shown-step : (k a e : ℕ) (t : Text) → Text-from-to a e ≡ shown k t → (a ≡ k) × ((e ≡ k + length t) × (0 < length t))
@@ -47,7 +48,7 @@ text-inside : (m : Text) (p : Place) (a e : ℕ) → Text-from-to a e ≡ found 
 text-inside m p a e h =
     let k = startAt m p in
     let t = textAt m p in
-    let w = shown-step k a e t h in (
+    let w = shown-step k a e t (h ∙ found-is m p) in (
       omega (arith, w),
       omega (arith, w, ap length (text-stands m p), length-take (length t) (drop k m), length-drop k m),
     )
@@ -80,10 +81,10 @@ module _ (m : Text) (p : code.Place) where
   pub looked-leaf : (r : Standing) (a e : ℕ) (q : Marks) (f : Answer Found) → r ≡ standing m n (p .occurrence) → Segment a e ≡ r
       → q ≡ marksOf m → f ≡ given (leafFound q numbers a (within a e m))
       → f ≡ first (test NoSegment (tooFew m (placeOf p)) ∷ []) (found m (placeOf p))
-  unfolding first textAt startAt
+  unfolding first startAt
   looked-leaf r a e q f s h k g =
       let t = h ∙ s in
-      g ∙ rw (k, standing-text m n (p .occurrence) a e t, standing-enough m n (p .occurrence) a e t, standing-start m n (p .occurrence) a e t)
+      g ∙ rw (k, standing-text m n (p .occurrence) a e t, standing-enough m n (p .occurrence) a e t, found-is m (placeOf p), text-is m (placeOf p), standing-start m n (p .occurrence) a e t)
 
   pub looked-inside : (r : Standing) (a e : ℕ) → r ≡ standing m n (p .occurrence) → Segment a e ≡ r → (a ≤ e) × (e ≤ length m)
   looked-inside r a e s h = standing-inside m n (p .occurrence) a e (h ∙ s)

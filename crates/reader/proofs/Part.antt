@@ -11,19 +11,20 @@ use Rattle.text.proofs.Answer.{first-asked}
 use Rattle.reader.specs.declared.Place as code
 use Rattle.reader.specs.declared.Found as code-found
 use Rattle.reader.specs.declared.search.LookedUp.{LookedUp}
-use Rattle.checks.specs.Place.{Place, textAt, startAt}
+use Rattle.checks.specs.Place.{Place, textAt}
+use Rattle.checks.specs.Starts.{startAt}
 use Rattle.checks.specs.LookUp.{Text-from-to, found, lookUpTests, lookUp}
 use Rattle.reader.specs.Told.{placeOf, foundOf}
 use Rattle.reader.specs.Part.{startOf, endOf}
 use Rattle.reader.specs.Promise.{LooksUp}
-use Rattle.checks.proofs.Stands.{text-stands}
+use Rattle.checks.proofs.Stands.{text-stands, found-is}
 use Rattle.reader.proofs.LookUp.{shown-step}
 
 -- the bytes from the start up to the end of a text that is found are the text at that place
 found-text : (m : Text) (p : Place) (a e : ℕ) → given (Text-from-to a e) ≡ lookUp m p → within a e m ≡ textAt m p
 unfolding lookUp
 found-text m p a e h =
-    let w = shown-step (startAt m p) a e (textAt m p) (first-asked (lookUpTests m p) (found m p) (Text-from-to a e) h) in
+    let w = shown-step (startAt m p) a e (textAt m p) (first-asked (lookUpTests m p) (found m p) (Text-from-to a e) h ∙ found-is m p) in
     let l : e - a ≡ length (textAt m p) = omega (arith, w) in
     rw (l, w .0) (text-stands m p)
 

@@ -8,13 +8,14 @@ use lib.ListN.{length, getD, drop}
 use lib.Dec.{ltb, leb·suc-suc}
 use borrow.Author.Tests.{lt-ltb, le-ltb}
 use Rattle.text.specs.Bytes.{Text, pick, cr, keep, within}
-use Rattle.parts.specs.Split.{before, reach}
+use Rattle.parts.specs.Start.{before, reach}
 use Rattle.parts.proofs.Split.{before-first, before-le, stands-le}
 use Rattle.parts.proofs.Descent.{within-length}
 use Rattle.parts.proofs.Reach.{ended-on, before-on, ended-end}
 use Rattle.reader.specs.declared.standing.Standing.{Standing}
 use Rattle.reader.specs.declared.standing.Standing.the-variants.{Missing, Segment}
-use Rattle.frame.specs.Segments.{segments, named, ofName, ahead, occurrence, occurrenceStart, fewer}
+use Rattle.frame.specs.Segments.{segments, named, ofName, occurrence, fewer}
+use Rattle.frame.specs.Starts.{ahead, occurrenceStart}
 use Rattle.reader.specs.Copied.{standing}
 use Rattle.frame.proofs.Segments.{occurrence-stands}
 

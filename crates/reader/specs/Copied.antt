@@ -1,9 +1,11 @@
--- Where a segment stands, and what copying one of its leaves takes. Only inner functions ask and promise it.
+-- Inner: no entry's promise is made of this.
+-- Where a segment stands, and what copying one of its leaves takes.
 use Prim.Native.Nat.{ℕ, _+_, _≤_}
 use mathlib.Core.List.{[]}
 use lib.ListN.{length}
 use Rattle.text.specs.Bytes.{Text, pick, within}
-use Rattle.frame.specs.Segments.{fewer, occurrence, occurrenceStart}
+use Rattle.frame.specs.Segments.{fewer, occurrence}
+use Rattle.frame.specs.Starts.{occurrenceStart}
 use Rattle.reader.specs.declared.standing.Standing.{Standing}
 use Rattle.reader.specs.declared.standing.Standing.the-variants.{Missing, Segment}
 

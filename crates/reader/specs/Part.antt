@@ -1,4 +1,5 @@
--- The very part of the message that a look-up answers with. (The very part of lent bytes is text's own.)
+-- An entry's promise is made of this.
+-- The very part of the message that a look-up answers with. (The very part of lent bytes stands in text/specs/Part.antt.)
 use Prim.Native.Nat.{ℕ}
 pub use Rattle.text.specs.Part.{VeryPart, SamePart}
 use Rattle.reader.specs.declared.Found.{Found}

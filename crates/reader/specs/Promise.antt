@@ -1,3 +1,4 @@
+-- An entry's promise is made of this.
 -- What looking up and judging promise.
 use mathlib.Core.Path.{_≡_}
 use denote.Ref.{RefT}

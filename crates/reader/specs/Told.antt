@@ -1,3 +1,4 @@
+-- An entry's promise is made of this.
 -- What each case of an answer tells: 01's number and values.
 use mathlib.Core.List.{[], _∷_}
 use Rattle.text.specs.Answer.{Answer, refused, given}
@@ -8,6 +9,7 @@ use Rattle.checks.specs.Place.{Place, place}
 use Rattle.checks.specs.LookUp.{Found, Empty, Text-from-to}
 use Rattle.checks.specs.Fault.{Verdict, accepted, fault}
 
+-- the code holds a name as its three bytes
 abbrev pub placeOf : code-place.Place → Place
 placeOf p =
     place (p .first ∷ p .second ∷ p .third ∷ [])

@@ -53,7 +53,7 @@ fn fault_at(m: &[u8], start: usize, occurrence: u64, r: Finding) -> Verdict
     })
 }
 
-// The reason that a segment itself gives: 1 where it is out of place, 2 where the message may not end behind it, else none.
+// The reason that a segment itself gives: 1 where it is out of place, 2 where the message may not end after it, else none.
 fn segment_reason(why: u64) -> u8
     ensures { λ r. ⌜ r ≡ segmentReason why ⌝ }
 {

@@ -1,7 +1,7 @@
 // The calls that only read: each reads its words, the strings into memory of its own, asks its entry and tells the answer.
 use handed::ask_look;
 use handed::ask_read;
-use reader::Place;
+use numbers::place_asked;
 use strings::memory;
 use strings::next_string;
 use telling::tell_no_call;
@@ -20,10 +20,10 @@ pub fn judge(l: &[u8], at: usize, out: &mut [u8]) -> usize {
     tell_verdict(out, v)
 }
 
-// The place with no name yet, read from five words, and whether these are the line's last.
+// Five numbers read from as many words, and whether these are the line's last.
 struct Asked {
     is_good: bool,
-    place: Place,
+    numbers: [u64; 5],
 }
 
 fn five_numbers(l: &[u8], at: usize) -> Asked {
@@ -34,44 +34,18 @@ fn five_numbers(l: &[u8], at: usize) -> Asked {
     let s = next_number(l, c.next);
     Asked {
         is_good: o.is_good & f.is_good & r.is_good & c.is_good & s.is_good & is_over(l, s.next),
-        place: Place {
-            first: 0,
-            second: 0,
-            third: 0,
-            occurrence: o.value,
-            field: f.value,
-            repetition: r.value,
-            component: c.value,
-            subcomponent: s.value,
-        },
+        numbers: [o.value, f.value, r.value, c.value, s.value],
     }
 }
 
-// The place with its name. One that has not three bytes is asked as three zeros, which are not of the form either.
-fn named(p: Place, name: &[u8]) -> Place {
-    if name.len() != 3 {
-        return p;
-    }
-    Place {
-        first: name[0],
-        second: name[1],
-        third: name[2],
-        occurrence: p.occurrence,
-        field: p.field,
-        repetition: p.repetition,
-        component: p.component,
-        subcomponent: p.subcomponent,
-    }
-}
-
-// The rest of a `look`, behind the message and the name.
+// The rest of a `look`, after the message and the name, which may have any length.
 fn look_at(l: &[u8], at: usize, m: &[u8], name: &[u8], out: &mut [u8]) -> usize {
     let a = five_numbers(l, at);
     if !a.is_good {
         return tell_no_call(out);
     }
-    let p = a.place;
-    ask_look(m, named(p, name), out)
+    let n = a.numbers;
+    ask_look(m, place_asked(name, &n), out)
 }
 
 pub fn look(l: &[u8], at: usize, out: &mut [u8]) -> usize {

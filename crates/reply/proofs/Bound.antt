@@ -3,7 +3,7 @@ use Prim.Native.Nat.{ℕ, suc, _+_, _≤_, _<_, _-_, _/_, _%_}
 use native.Mathlib.Omega.{arith}
 use mathlib.Core.Path.{_≡_, refl}
 use mathlib.Core.Bool.{Bool, true, false, _&&_, _||_}
-use mathlib.Core.List.{List, [], _∷_}
+use mathlib.Core.List.{List, [], _∷_, map}
 use lib.ListN.{length, length-append}
 use lib.Dec.{eqb, leb, ltb}
 use borrow.Author.Tests.{ltb-false, eqb-true, leb-true, lt-ltb}
@@ -18,14 +18,14 @@ use Rattle.text.proofs.Lists.{All, or-either, or-none}
 use Rattle.text.proofs.Digits.{decimal-length}
 use Rattle.parts.specs.Split.{led, join, closed, trimmed}
 use Rattle.frame.specs.Frame.{header}
-use Rattle.profile.specs.Table.{Table, limitOf, IS, ST, ID}
+use Rattle.profile.specs.Table.{Table, IS, ST, ID}
 use Rattle.profile.specs.Lists.{processing-ids}
-use Rattle.profile.specs.Fields.{controlLimit}
+use Rattle.profile.specs.Limits.{limitOf, controlLimit}
 use Rattle.profile.specs.Profile.{profile01}
 use Rattle.reader.specs.Place.{Place}
 use Rattle.reader.specs.Fault.{Verdict, accepted, fault, verdict, condition}
 use Rattle.heading.specs.Header.{headerLeaf, orEmpty, copiedHD, processing, headerFields, replyHeader}
-use Rattle.report.specs.Error.{firstRejection, code, orNone, placeText, conditionText, replyERR}
+use Rattle.report.specs.Error.{firstRejection, code, withoutTrailingZeros, placeNumbers, placeText, conditionText, replyERR}
 use Rattle.reply.specs.Reply.{control, noControl, replyMSA, replyText, longestReply}
 use Rattle.reply.proofs.Small.{Small, SmallVerdict, smallTable, profile-small, verdict-small}
 
@@ -65,7 +65,7 @@ trimmed-length : (sep : ℕ) (ps : List Text) (k : ℕ) → total ps ≤ suc k �
 trimmed-length sep ps k h = omega (arith, join-length sep (trimmed ps), trimmed-total ps)
 
 -- 2. Numbers: below 1,000 they have three digits at most
--- the first digit; a digit behind others
+-- the first digit; a digit after others
 module _ (k n : ℕ) (t : Text) where
   digits-first : n < 10 → length (digitsBefore (suc k) n t) ≤ 1 + length t
   unfolding digitsBefore
@@ -82,8 +82,13 @@ three-digits n h =
     (digits-more 18 (n / 10) ((byte "0" + n % 10) ∷ []) 1
     (digits-first 17 (n / 10 / 10) ((byte "0" + n / 10 % 10) ∷ (byte "0" + n % 10) ∷ []) (omega arith)))
 
-or-none-length : (n k : ℕ) → length (decimal n) ≤ k → length (orNone n) ≤ k
-or-none-length n k h = picks (Within k) (eqb n 0) (omega arith) h
+-- with the trailing zeros left off they take no more bytes than all of them
+zeros-total : (ns : List ℕ) → total (map decimal (withoutTrailingZeros ns)) ≤ total (map decimal ns)
+unfolding withoutTrailingZeros
+zeros-total [] = omega arith
+zeros-total (n ∷ ns) =
+    picks (λ (rs : List ℕ). total (map decimal rs) ≤ total (map decimal (n ∷ ns))) (eqb n 0 && empty (withoutTrailingZeros ns))
+    (omega arith) (omega (arith, zeros-total ns))
 
 -- 3. The header
 stamp-length : (t : Text) → isStamp t ≡ true → length t ≡ 14
@@ -163,35 +168,29 @@ msa-length m v h = omega (arith, join-length (usual .field) (bytes "MSA" ∷ cod
 -- 5. The ERR: occurrence and repetition may take 20 digits each, since nothing here bounds them
 place-length : (p : Place) → Small p → length (placeText p) ≤ 57
 place-length p s =
-    trimmed-length (usual .component)
-    (p .name
-    ∷ orNone (p .occurrence)
-    ∷ orNone (p .field)
-    ∷ orNone (p .repetition)
-    ∷ orNone (p .component)
-    ∷ orNone (p .subcomponent)
-    ∷ [])
-    57
-    (omega (
+    omega (
       arith,
+      join-length (usual .component) (p .name ∷ map decimal (withoutTrailingZeros (placeNumbers p))),
+      zeros-total (placeNumbers p),
       s .name,
-      or-none-length (p .occurrence) 20 (decimal-length (p .occurrence)),
-      or-none-length (p .field) 3 (three-digits (p .field) (s .field)),
-      or-none-length (p .repetition) 20 (decimal-length (p .repetition)),
-      or-none-length (p .component) 3 (three-digits (p .component) (s .component)),
-      or-none-length (p .subcomponent) 3 (three-digits (p .subcomponent) (s .subcomponent)),
-    ))
+      decimal-length (p .occurrence),
+      three-digits (p .field) (s .field),
+      decimal-length (p .repetition),
+      three-digits (p .component) (s .component),
+      three-digits (p .subcomponent) (s .subcomponent),
+    )
 
 condition-small : (n : ℕ) → condition n < 1000
 condition-small n =
     let P : ℕ → Type 0 = λ k. k < 1000 in
-    picks P (ltb n 3) (omega arith)
+    picks P (isWithin (1 to 2) n) (omega arith)
     (picks P (eqb n 3) (omega arith)
-    (picks P (ltb n 8) (omega arith)
+    (picks P (isWithin (4 to 7) n) (omega arith)
     (picks P (eqb n 8) (omega arith)
     (picks P (eqb n 9) (omega arith)
     (picks P (eqb n 10) (omega arith)
-    (picks P (eqb n 11) (omega arith) (omega arith)))))))
+    (picks P (eqb n 11) (omega arith)
+    (picks P (eqb n 12) (omega arith) (omega arith))))))))
 
 condition-length : (k : ℕ) → length (conditionText k) ≤ 25
 condition-length k =
@@ -201,7 +200,8 @@ condition-length k =
     (picks (Within 25) (eqb k 103) (omega arith)
     (picks (Within 25) (eqb k 200) (omega arith)
     (picks (Within 25) (eqb k 201) (omega arith)
-    (picks (Within 25) (eqb k 202) (omega arith) (omega arith)))))))
+    (picks (Within 25) (eqb k 202) (omega arith)
+    (picks (Within 25) (eqb k 203) (omega arith) (omega arith))))))))
 
 err-length : (v : Verdict) → SmallVerdict v → total (replyERR v) ≤ 103
 err-length accepted s = omega arith

@@ -15,7 +15,7 @@ use Rattle.escape.specs.Escape.{badEscape}
 use Rattle.text.specs.Limits.{tooLong}
 use Rattle.text.proofs.Lists.{or-assoc}
 use Rattle.reader.specs.declared.standing.Standing.{Standing}
-use Rattle.profile.specs.Fields.{controlLimit}
+use Rattle.profile.specs.Limits.{controlLimit}
 use Rattle.reader.specs.Copied.{standing, segmentText}
 use Rattle.reader.specs.FromField.{FieldsFrom, firstRepetition, firstLeaf}
 use Rattle.reader.proofs.Copied.{standing-bytes}

@@ -1,16 +1,18 @@
 -- By a table of small numbers the place of a fault is small: its name has at most three bytes, and its numbers but for those that the message
 -- counts, occurrence and repetition, are below 1,000.
 use mathlib.Core.Path.{_≡_, refl}
-use Prim.Native.Nat.{ℕ, _≤_, _<_}
+use mathlib.Core.List.{flatMap}
+use Prim.Native.Nat.{ℕ, suc, _≤_, _<_}
 use native.Mathlib.Omega.{arith}
 use mathlib.Core.Bool.{Bool, true, _&&_}
 use lib.ListN.{length, length-take}
 use lib.Dec.{ltb}
 use borrow.Author.Tests.{ltb-true}
-use Rattle.text.specs.Bytes.{Text, every}
+use Rattle.text.specs.Bytes.{Text, every, same}
 use Rattle.text.proofs.Tests.{both}
 use Rattle.profile.specs.Table.{Table, Leaf}
-use Rattle.profile.specs.Rows.{rows}
+use Rattle.profile.specs.Noted.{noted}
+use Rattle.profile.specs.Fields.{rows}
 use Rattle.profile.specs.Profile.{profile01}
 use Rattle.reader.specs.Place.{Place, place}
 use Rattle.reader.specs.Fault.{Verdict, verdict}
@@ -27,7 +29,7 @@ abbrev pub smallTable : Table → Bool
 smallTable T = tablePasses small smallLeaf T
 
 pub profile-small : smallTable profile01 ≡ true
-unfolding tablePasses every profile01 rows
+unfolding flatMap same tablePasses every profile01 noted rows
 profile-small = refl
 
 pub record Small (p : Place) : Type 0 where
@@ -66,8 +68,9 @@ verdict-small T ok m =
     (record {
       out-of-place = λ n o h. at-field n o 0 0 h (omega arith);
       end = λ n o h. at-field n o 0 0 h (omega arith);
-      missing = λ n o f h g. at-field n o f 1 h (ltb-true f 1000 g);
-      surplus = λ n o f r h g. at-field n o f r h (ltb-true f 1000 g);
-      leaf = λ n o f r l h g e. let p = at-leaf n o f r l h (ltb-true f 1000 g) e in (p, (p, (p, (p, (p, tt)))));
+      missing = λ n o f h g. at-field n (suc o) f 1 h (ltb-true f 1000 g);
+      surplus = λ n o f r h g. at-field n (suc o) f (suc r) h (ltb-true f 1000 g);
+      leaf = λ n o f r l h g e. let p = at-leaf n (suc o) f (suc r) l h (ltb-true f 1000 g) e in (p, (p, (p, (p, tt))));
+      list = λ n o f r l h g e codes why is. at-leaf n (suc o) f (suc r) l h (ltb-true f 1000 g) e;
     })
     (omega arith) (λ s. omega (arith, length-take 3 s)) m

@@ -1,4 +1,4 @@
--- The whole reply: its segments one behind another, and which answer each way out gives.
+-- The whole reply: its segments one after another, and which answer each way out gives.
 use mathlib.Core.Path.{_≡_, refl, sym, ap, _∙_}
 use Prim.Native.Nat.{ℕ, _+_, _-_, _≤_, _<_}
 use native.Mathlib.Omega.{arith}
@@ -77,7 +77,7 @@ module _ (m stamp number : Text) (v : code-verdict.Verdict) (e : verdictOf v ≡
         length-append (control m) (cr ∷ errorOf v),
       )
 
-  -- behind the header there is room for the rest, and the rest makes the reply
+  -- after the header there is room for the rest, and the rest makes the reply
   module _ {before mid : Text} {k : ℕ} (p : Puts before 0 (replyHeader m stamp number ++ cr ∷ []) mid k) where
     pub reply-room : length (replyText profile01 m stamp number) ≤ length before
         → k + (length (codeOf v) + (length (control m) + (1 + length (errorOf v)))) ≤ length mid

@@ -1,3 +1,4 @@
+-- An entry's promise is made of this.
 -- What a reply promises.
 use mathlib.Core.Path.{_≡_}
 use lib.ListN.{length}

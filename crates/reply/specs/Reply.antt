@@ -1,3 +1,4 @@
+-- An entry's promise is made of this.
 -- The reply to a message: its exact bytes, or the first refusal.
 use Prim.Native.Nat.{ℕ}
 use mathlib.Core.Bool.{Bool, not, _||_}
@@ -14,7 +15,7 @@ use Rattle.text.specs.declared.refusal.Refusal.the-variants.{BadStamp, BadReply
 use Rattle.parts.specs.Split.{join, closed}
 use Rattle.frame.specs.Frame.{frameTests}
 use Rattle.profile.specs.Table.{Table}
-use Rattle.profile.specs.Fields.{controlLimit}
+use Rattle.profile.specs.Limits.{controlLimit}
 use Rattle.reader.specs.Fault.{Verdict, verdict}
 use Rattle.heading.specs.Header.{headerLeaf, replyHeader}
 use Rattle.report.specs.Error.{code, replyERR}
@@ -41,14 +42,22 @@ longestReply = 1200
 -- its own tests, and those of the frame before them
 abbrev pub ownTests : Table → Text → Text → Text → ℕ → List Test
 ownTests T m stamp number room =
+    -- 11 BAD STAMP: stamp isn't 14 digits that form a DTM
     test BadStamp (not (isStamp stamp))
+    -- 12 BAD REPLY NUMBER: not 1..20 capitals or digits
     ∷ test BadReplyNumber (not (isReplyNumber number))
+    -- 13 NO CONTROL NUMBER: MSH-10 leaf Empty, over its limit, or with a bad escape
     ∷ test NoControlNumber (noControl m)
+    -- 14 NO ROOM: lent buffer shorter than the output
     ∷ test NoRoom (ltb room (length (replyText T m stamp number)))
     ∷ []
 
 abbrev pub replyTests : Table → Text → Text → Text → ℕ → List Test
-replyTests T m stamp number room = frameTests m ++ ownTests T m stamp number room
+replyTests T m stamp number room =
+    -- 1 to 8
+    frameTests m
+    -- 11 to 14
+    ++ ownTests T m stamp number room
 
 -- THE REPLY, for a stamp, a reply number and the length of the lent buffer: 1 to 8, 11 to 14, or the bytes written
 unfoldable pub reply : Table → Text → Text → Text → ℕ → Answer Text

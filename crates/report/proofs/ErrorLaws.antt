@@ -1,18 +1,18 @@
--- The MSA's code and the ERR of a reply as they are written, one text behind another.
+-- The MSA's code and the ERR of a reply as they are written, one text after another.
 use mathlib.Core.Path.{_≡_, refl, sym, ap, _∙_}
-use Prim.Native.Nat.{ℕ, zero, suc, _+_, _≤_, _<_, _/_, _%_}
+use Prim.Native.Nat.{ℕ, zero, suc, _+_, _≤_, _<_}
 use native.Mathlib.Omega.{arith}
-use mathlib.Core.Bool.{Bool, true, false, not, _||_}
-use mathlib.Core.List.{[], _∷_, _++_, append-assoc, append-nil}
+use mathlib.Core.Bool.{Bool, true, false, not, _&&_, _||_}
+use mathlib.Core.List.{List, [], _∷_, _++_, map, append-assoc, append-nil}
 use lib.ListN.{length, length-append}
 use lib.Dec.{eqb, ltb}
 use borrow.Author.Tests.{lt-ltb, le-ltb, ne-eqb, not-true, not-false}
 use Rattle.text.specs.Bytes.{Text, pick, bytes, byte, cr, empty}
-use Rattle.text.specs.Decimal.{digitsBefore, decimal}
+use Rattle.text.specs.Decimal.{decimal}
+use Rattle.text.specs.Limits.{_to_, isWithin}
 use Rattle.text.specs.Puts.{Puts}
 use Rattle.text.specs.Marks.{usual}
 use Rattle.parts.specs.Split.{led, join, closed}
-use Rattle.parts.proofs.Trim.{trimmed-join, trimmed-led, trimmed-left, trimmed-none, none-left}
 use Rattle.reader.specs.declared.Fault.{Fault}
 use Rattle.reader.specs.declared.Verdict.{Verdict}
 use Rattle.reader.specs.declared.Verdict.the-variants as verdict
@@ -20,7 +20,7 @@ use Rattle.reader.specs.declared.Place as code-place
 use Rattle.reader.specs.Place.{Place}
 use Rattle.reader.specs.Told.{placeOf}
 use Rattle.reader.specs.Fault.{condition}
-use Rattle.report.specs.Error.{firstRejection, orNone, placeText, conditionText}
+use Rattle.report.specs.Error.{firstRejection, withoutTrailingZeros, placeText, conditionText}
 use Rattle.report.specs.Inner.{codeOf, conditionWords, errorText}
 
 -- THE CODE of a fault, by its condition
@@ -31,48 +31,64 @@ module _ (v : Verdict) (f : Fault) (k : ℕ) (e : v ≡ verdict.Fault f) (q : k 
   pub code-reject : firstRejection ≤ k → codeOf v ≡ bytes "MSA|AR|"
   code-reject h = ap codeOf e ∙ rw (← q, le-ltb k firstRejection h)
 
--- a number in digits is not empty
-filled-step : (b : Bool) (s t : Text) → empty s ≡ false → empty t ≡ false → empty (pick b s t) ≡ false
-filled-step true s t h l = h
-filled-step false s t h l = l
-
-digits-filled : (k n : ℕ) (t : Text) → empty t ≡ false → empty (digitsBefore k n t) ≡ false
-unfolding digitsBefore
-digits-filled zero n t h = h
-digits-filled (suc k) n t h =
-    let d = (byte "0" + n % 10) ∷ t in
-    filled-step (ltb n 10) d (digitsBefore k (n / 10) d) refl (digits-filled k (n / 10) d refl)
-
-digits-some : (k n : ℕ) (t : Text) → empty (digitsBefore (suc k) n t) ≡ false
-unfolding digitsBefore
-digits-some k n t =
-    let d = (byte "0" + n % 10) ∷ t in
-    filled-step (ltb n 10) d (digitsBefore k (n / 10) d) refl (digits-filled k (n / 10) d refl)
-
--- a number of a place has bytes where it is above nought
-above : (n : ℕ) → not (empty (orNone n)) ≡ ltb 0 n
-above zero = refl
-above (suc n) =
-    rw (ne-eqb (suc n) 0 (λ e. omega arith), lt-ltb 0 (suc n) (omega arith), digits-some 19 (suc n) [])
-
--- a number of a place behind its separator
+-- a number of a place after its separator
 abbrev numbered : Bool → ℕ → Text
-numbered w n = pick w (byte "^" ∷ orNone n) []
+numbered w n = pick w (byte "^" ∷ decimal n) []
 
 module _ (w : Bool) (n : ℕ) where
   pub numbered-none : not w ≡ true → numbered w n ≡ []
   numbered-none h = rw (not-true w h)
 
-  pub numbered-room : not w ≡ false → 1 ≤ length (numbered w n)
-  numbered-room h = rw (not-false w h) (omega arith)
+  pub numbered-some : not w ≡ false → numbered w n ≡ byte "^" ∷ decimal n
+  numbered-some h = rw (not-false w h)
 
-  pub numbered-nought : not w ≡ false → n ≡ 0 → numbered w n ≡ byte "^" ∷ []
-  numbered-nought h e = rw (not-false w h, e)
+-- a number before those that are left: it is written where it is above nought, or where something is left
+led-step : (n : ℕ) (z : Bool) (r : List ℕ)
+    → led (byte "^") (map decimal (pick (z && empty r) [] (n ∷ r))) ≡ numbered (not (empty r) || not z) n ++ led (byte "^") (map decimal r)
+unfolding led
+led-step n true [] = refl
+led-step n true (k ∷ r) = refl
+led-step n false [] = refl
+led-step n false (k ∷ r) = refl
 
-  pub numbered-some : not w ≡ false → (n ≡ 0 → ⊥) → numbered w n ≡ byte "^" ∷ decimal n
-  numbered-some h e = rw (not-false w h, ne-eqb n 0 e)
+left-step : (n : ℕ) (z : Bool) (r : List ℕ) → not (empty (pick (z && empty r) [] (n ∷ r))) ≡ not (empty r) || not z
+left-step n true [] = refl
+left-step n true (k ∷ r) = refl
+left-step n false [] = refl
+left-step n false (k ∷ r) = refl
 
--- A PLACE: its name, and each number that is above nought or has such a one behind it
+above : (n : ℕ) → not (eqb n 0) ≡ ltb 0 n
+above zero = refl
+above (suc n) = rw (ne-eqb (suc n) 0 (λ e. omega arith), lt-ltb 0 (suc n) (omega arith))
+
+abbrev lasting : List ℕ → Bool
+lasting ns = not (empty (withoutTrailingZeros ns))
+
+abbrev written : List ℕ → Text
+written ns = led (byte "^") (map decimal (withoutTrailingZeros ns))
+
+module _ (n : ℕ) (ns : List ℕ) {left : Bool} (l : lasting ns ≡ left) where
+  number-led : written (n ∷ ns) ≡ numbered (left || ltb 0 n) n ++ written ns
+  unfolding withoutTrailingZeros
+  number-led = led-step n (eqb n 0) (withoutTrailingZeros ns) ∙ rw (l, above n)
+
+  number-left : lasting (n ∷ ns) ≡ left || ltb 0 n
+  unfolding withoutTrailingZeros
+  number-left = left-step n (eqb n 0) (withoutTrailingZeros ns) ∙ rw (l, above n)
+
+none-left : lasting [] ≡ false
+unfolding withoutTrailingZeros
+none-left = refl
+
+none-led : written [] ≡ []
+unfolding withoutTrailingZeros led
+none-led = refl
+
+name-first : (t : Text) (ns : List ℕ) → join (byte "^") (t ∷ map decimal (withoutTrailingZeros ns)) ≡ t ++ written ns
+unfolding join
+name-first t ns = refl
+
+-- A PLACE: its name, and each number that is above nought or has a later one that is
 module _ (p : code-place.Place) where
   abbrev name : Text
   name = p .first ∷ p .second ∷ p .third ∷ []
@@ -97,23 +113,23 @@ module _ (p : code-place.Place) where
       ++ (numbered b (p .field) ++ (numbered c (p .repetition) ++ (numbered d (p .component) ++ numbered e (p .subcomponent)))))
       ≡ placeText (placeOf p)
   place-written =
-      let p1 = orNone (p .subcomponent) ∷ [] in
-      let p2 = orNone (p .component) ∷ p1 in
-      let p3 = orNone (p .repetition) ∷ p2 in
-      let p4 = orNone (p .field) ∷ p3 in
-      let h1 = trimmed-left (orNone (p .subcomponent)) [] (above (p .subcomponent)) none-left in
-      let h2 = trimmed-left (orNone (p .component)) p1 (above (p .component)) h1 in
-      let h3 = trimmed-left (orNone (p .repetition)) p2 (above (p .repetition)) h2 in
-      let h4 = trimmed-left (orNone (p .field)) p3 (above (p .field)) h3 in
+      let p1 = p .subcomponent ∷ [] in
+      let p2 = p .component ∷ p1 in
+      let p3 = p .repetition ∷ p2 in
+      let p4 = p .field ∷ p3 in
+      let h1 = number-left (p .subcomponent) [] none-left in
+      let h2 = number-left (p .component) p1 h1 in
+      let h3 = number-left (p .repetition) p2 h2 in
+      let h4 = number-left (p .field) p3 h3 in
       sym
-      (trimmed-join (byte "^") name (orNone (p .occurrence) ∷ p4)
+      (name-first name (p .occurrence ∷ p4)
       ∙ rw (
-        trimmed-led (orNone (p .occurrence)) p4 (above (p .occurrence)) h4 (byte "^"),
-        trimmed-led (orNone (p .field)) p3 (above (p .field)) h3 (byte "^"),
-        trimmed-led (orNone (p .repetition)) p2 (above (p .repetition)) h2 (byte "^"),
-        trimmed-led (orNone (p .component)) p1 (above (p .component)) h1 (byte "^"),
-        trimmed-led (orNone (p .subcomponent)) [] (above (p .subcomponent)) none-left (byte "^"),
-        trimmed-none (byte "^"),
+        number-led (p .occurrence) p4 h4,
+        number-led (p .field) p3 h3,
+        number-led (p .repetition) p2 h2,
+        number-led (p .component) p1 h1,
+        number-led (p .subcomponent) [] none-left,
+        none-led,
         append-nil (numbered e (p .subcomponent)),
       ))
 
@@ -135,24 +151,26 @@ module _ (n v : ℕ) {k : ℕ} (told : k ≡ condition n) (e : k ≡ v) where
   pub condition-put : {before : Text} {at : ℕ} {after : Text} {r : ℕ} → Puts before at (words v) after r → Puts before at (conditionWords n) after r
   condition-put p = rw (← told, e) p
 
--- the last condition is left where it is none of the others
+-- what is none of the conditions is 0
 abbrev Other : ℕ → Type 0
 Other k =
-    ((((((Unit × (k ≡ 100 → ⊥)) × (k ≡ 101 → ⊥)) × (k ≡ 102 → ⊥)) × (k ≡ 103 → ⊥)) × (k ≡ 200 → ⊥)) × (k ≡ 201 → ⊥)) × (k ≡ 202 → ⊥)
+    (((((((Unit × (k ≡ 100 → ⊥)) × (k ≡ 101 → ⊥)) × (k ≡ 102 → ⊥)) × (k ≡ 103 → ⊥)) × (k ≡ 200 → ⊥)) × (k ≡ 201 → ⊥)) × (k ≡ 202 → ⊥)) × (k ≡ 203 → ⊥)
 
-last-step : (k : ℕ) (a b c d e f g : Bool)
-    → k ≡ pick a 100 (pick b 101 (pick c 102 (pick d 103 (pick e 200 (pick f 201 (pick g 202 203)))))) → Other k → k ≡ 203
-last-step k true b c d e f g q h = absurd (h .0 .0 .0 .0 .0 .0 .1 q)
-last-step k false true c d e f g q h = absurd (h .0 .0 .0 .0 .0 .1 q)
-last-step k false false true d e f g q h = absurd (h .0 .0 .0 .0 .1 q)
-last-step k false false false true e f g q h = absurd (h .0 .0 .0 .1 q)
-last-step k false false false false true f g q h = absurd (h .0 .0 .1 q)
-last-step k false false false false false true g q h = absurd (h .0 .1 q)
-last-step k false false false false false false true q h = absurd (h .1 q)
-last-step k false false false false false false false q h = q
+other-step : (k : ℕ) (a b c d e f g l : Bool)
+    → k ≡ pick a 100 (pick b 101 (pick c 102 (pick d 103 (pick e 200 (pick f 201 (pick g 202 (pick l 203 0))))))) → Other k → k ≡ 0
+other-step k true b c d e f g l q h = absurd (h .0 .0 .0 .0 .0 .0 .0 .1 q)
+other-step k false true c d e f g l q h = absurd (h .0 .0 .0 .0 .0 .0 .1 q)
+other-step k false false true d e f g l q h = absurd (h .0 .0 .0 .0 .0 .1 q)
+other-step k false false false true e f g l q h = absurd (h .0 .0 .0 .0 .1 q)
+other-step k false false false false true f g l q h = absurd (h .0 .0 .0 .1 q)
+other-step k false false false false false true g l q h = absurd (h .0 .0 .1 q)
+other-step k false false false false false false true l q h = absurd (h .0 .1 q)
+other-step k false false false false false false false true q h = absurd (h .1 q)
+other-step k false false false false false false false false q h = q
 
-pub condition-last : (n k : ℕ) → k ≡ condition n → Other k → k ≡ 203
-condition-last n k q h = last-step k (ltb n 3) (eqb n 3) (ltb n 8) (eqb n 8) (eqb n 9) (eqb n 10) (eqb n 11) q h
+pub condition-other : (n k : ℕ) → k ≡ condition n → Other k → k ≡ 0
+condition-other n k q h =
+    other-step k (isWithin (1 to 2) n) (eqb n 3) (isWithin (4 to 7) n) (eqb n 8) (eqb n 9) (eqb n 10) (eqb n 11) (eqb n 12) q h
 
 -- ERR with its CR
 error-step : (p w : Text)

@@ -3,9 +3,10 @@ ghost use mathlib.Core.List.{[], _∷_};
 ghost use Prim.Native.Nat.{_+_, _≤_};
 ghost use lib.ListN.{length};
 ghost use Rattle.text.specs.Bytes.{pick, byte};
+ghost use Rattle.text.specs.Decimal.{decimal};
 ghost use Rattle.text.specs.Puts.{Puts};
 ghost use Rattle.reader.specs.Told.{placeOf};
-ghost use Rattle.report.specs.Error.{orNone, placeText};
+ghost use Rattle.report.specs.Error.{placeText};
 ghost use Rattle.report.specs.Inner.{codeOf, errorOf, errorText, conditionWords};
 use reader::Fault;
 use reader::Place;
@@ -34,18 +35,15 @@ pub fn put_code(out: &mut [u8], at: usize, v: Verdict) -> usize
     }
 }
 
-// A number of a place behind its separator, a nought as no bytes; nothing where neither it nor a later one is above nought.
+// A number of a place after its separator; nothing where neither it nor a later one is above nought.
 fn put_number(out: &mut [u8], at: usize, wanted: bool, n: u64) -> usize
-    requires { ⌜ at + length (pick wanted (byte "^" ∷ orNone n) []) ≤ length (now out) ⌝ }
-    ensures { λ r. ⌜ Puts (now (out .entry)) at (pick wanted (byte "^" ∷ orNone n) []) (now (out .exit)) r ⌝ }
+    requires { ⌜ at + length (pick wanted (byte "^" ∷ decimal n) []) ≤ length (now out) ⌝ }
+    ensures { λ r. ⌜ Puts (now (out .entry)) at (pick wanted (byte "^" ∷ decimal n) []) (now (out .exit)) r ⌝ }
 {
     if !wanted {
         return at;
     }
     let a = put(out, at, b"^");
-    if n == 0 {
-        return a;
-    }
     put_decimal(out, a, n)
 }
 
@@ -81,7 +79,8 @@ fn put_condition(out: &mut [u8], at: usize, reason: u8) -> usize
         200 => put(out, at, b"200^Unsupported message type^HL70357"),
         201 => put(out, at, b"201^Unsupported event code^HL70357"),
         202 => put(out, at, b"202^Unsupported processing id^HL70357"),
-        _ => put(out, at, b"203^Unsupported version id^HL70357"),
+        203 => put(out, at, b"203^Unsupported version id^HL70357"),
+        _ => put(out, at, b"0^^HL70357"),
     }
 }
 

@@ -15,12 +15,17 @@ use Rattle.text.specs.declared.marks.Marks.{Marks}
 use Rattle.text.proofs.Tests.{not-true}
 use Rattle.parts.specs.declared.Span.{Span}
 use Rattle.parts.specs.declared.Numbers.{Numbers}
-use Rattle.parts.specs.Split.{split, piece, start}
-use Rattle.parts.specs.Descent.{Step, part, partStart, inField}
+use Rattle.parts.specs.Split.{split, piece}
+use Rattle.parts.specs.Start.{start}
+use Rattle.parts.specs.Descent.{inField}
+use Rattle.parts.specs.Span.{partText, partStart}
 use Rattle.parts.specs.Span.{span, stepsFrom}
 use Rattle.parts.proofs.Descent.{within-length, reached, part-nil}
-use Rattle.frame.specs.Segments.{isHeader, field, fieldStart}
-use Rattle.checks.specs.Place.{leafAt, leafStart}
+use Rattle.frame.specs.Segments.{isHeader, field, unsplit}
+use Rattle.frame.specs.Starts.{fieldStart}
+use Rattle.frame.proofs.Segments.{field-header, field-other}
+use Rattle.checks.specs.Starts.{leafStart}
+use Rattle.checks.proofs.Leaf.{leaf-split, leaf-one}
 use Rattle.checks.specs.Shown.{Found, Empty, Text-from-to, shown}
 use Rattle.seek.specs.Inner.{leafFound, leafBehind}
 
@@ -41,7 +46,7 @@ module _ (p : Span) (k : ℕ) (t : Text) (is : p ≡ span k t) where
   between-none l =
       shown-none k t (omega (arith, ap (λ (s : Span). s .start) is, ap (λ (s : Span). s .end) is))
 
--- the fields behind some bytes of a segment
+-- the fields after some bytes of a segment
 drop-take : (k n : ℕ) (l : Text) → drop k (take n l) ≡ take (n - k) (drop k l)
 drop-take zero n l = rw sub-zero
 drop-take (suc k) zero l = rw zero-sub
@@ -57,44 +62,59 @@ module _ (m : Text) (start end skip : ℕ) (l : start ≤ end) (h : end ≤ leng
   pub behind-short : end - start < skip → Empty ≡ leafBehind q n start skip (within start end m)
   behind-short e =
       let z : drop skip (within start end m) ≡ [] = drop-of-length-le (within start end m) {i = skip} (omega (arith, within-length m start end l h)) in
-      shown-none (start + (skip + partStart false (stepsFrom q n 4) (drop skip (within start end m)))) (part false (stepsFrom q n 4) (drop skip (within start end m)))
+      shown-none (start + (skip + partStart (stepsFrom q n 4) (drop skip (within start end m)))) (partText (stepsFrom q n 4) (drop skip (within start end m)))
       (rw z (ap length (part-nil (stepsFrom q n 4))))
 
   -- what the descent from there reaches
   pub behind-reached : (r : Span) → r ≡ reached q n 4 (start + skip) end m
-      → r ≡ span (start + (skip + partStart false (stepsFrom q n 4) (drop skip (within start end m)))) (part false (stepsFrom q n 4) (drop skip (within start end m)))
+      → r ≡ span (start + (skip + partStart (stepsFrom q n 4) (drop skip (within start end m)))) (partText (stepsFrom q n 4) (drop skip (within start end m)))
   behind-reached r g =
       let t = drop skip (within start end m) in
-      let e : start + skip + partStart false (stepsFrom q n 4) t ≡ start + (skip + partStart false (stepsFrom q n 4) t) = omega arith in
-      (rw (within-behind m start end skip) at g) ∙ ap (λ (k : ℕ). span k (part false (stepsFrom q n 4) t)) e
+      let e : start + skip + partStart (stepsFrom q n 4) t ≡ start + (skip + partStart (stepsFrom q n 4) t) = omega arith in
+      (rw (within-behind m start end skip) at g) ∙ ap (λ (k : ℕ). span k (partText (stepsFrom q n 4) t)) e
+
+-- the leaf of a field that is split, and that is one leaf
+module _ (q : Marks) (s : Text) (f r c b k : ℕ) where
+  split-found : unsplit s f ≡ false
+      → leafFound q (record { field = f; repetition = r; component = c; subcomponent = b }) k s
+      ≡ shown (k + (fieldStart q s f + partStart (inField q r c b) (field q s f))) (partText (inField q r c b) (field q s f))
+  unfolding leafStart
+  split-found cut = rw (leaf-split q s f r c b cut, cut)
+
+  one-found : unsplit s f ≡ true
+      → leafFound q (record { field = f; repetition = r; component = c; subcomponent = b }) k s
+      ≡ shown (k + (fieldStart q s f + 0)) (pick (eqb r 1 && eqb c 1 && eqb b 1) (field q s f) [])
+  unfolding leafStart
+  one-found cut = rw (leaf-one q s f r c b cut, cut)
 
 -- THE LEAF of a segment that is no header
 module _ (q : Marks) (n : Numbers) (k : ℕ) (s : Text) where
   pub leaf-fields : (a : Found) → isHeader s ≡ false → a ≡ leafBehind q n k 4 s → a ≡ leafFound q n k s
-  unfolding leafAt leafStart field fieldStart part partStart stepsFrom
+  unfolding fieldStart partText partStart stepsFrom
   leaf-fields f e g =
       let t = drop 4 s in
       let a = start (q .field) (n .field) t in
-      let p = partStart false (inField q (n .repetition) (n .component) (n .subcomponent)) (piece (n .field) (split (q .field) t)) in
+      let p = partStart (inField q (n .repetition) (n .component) (n .subcomponent)) (piece (n .field) (split (q .field) t)) in
       let z : 4 + (a + p) ≡ 4 + a + p = omega arith in
-      g ∙ rw (e, z)
+      g ∙ sym (split-found q s (n .field) (n .repetition) (n .component) (n .subcomponent) k (rw e) ∙ rw (field-other q s (n .field) e, e, z))
 
--- that of a header, from MSH-3 on: the fields stand behind nine bytes, and two numbers are taken
+-- that of a header, from MSH-3 on: the fields stand after nine bytes, and two numbers are taken
 third : (q : Marks) (f r c b k : ℕ) (s : Text) → isHeader s ≡ true → 3 ≤ f
     → leafBehind q (record { field = f - 2; repetition = r; component = c; subcomponent = b }) k 9 s
     ≡ leafFound q (record { field = f; repetition = r; component = c; subcomponent = b }) k s
-unfolding leafAt leafStart field fieldStart part partStart stepsFrom
+unfolding fieldStart partText partStart stepsFrom
 third q zero r c b k s e l = absurd (omega arith)
 third q (suc zero) r c b k s e l = absurd (omega arith)
 third q (suc (suc zero)) r c b k s e l = absurd (omega arith)
 third q (suc (suc (suc i))) r c b k s e l =
     let t = drop 9 s in
+    let f = suc (suc (suc i)) in
     let a = start (q .field) (suc i) t in
-    let p = partStart false (inField q r c b) (piece (suc i) (split (q .field) t)) in
+    let p = partStart (inField q r c b) (piece (suc i) (split (q .field) t)) in
     let z : 9 + (a + p) ≡ 9 + a + p = omega arith in
-    let x : suc (suc (suc i)) - 2 ≡ suc i = omega arith in
-    let y : leb (suc (suc (suc i))) 2 ≡ false = lt-leb (suc (suc (suc i))) 2 (omega arith) in
-    rw (e, x, y, z)
+    let x : f - 2 ≡ suc i = omega arith in
+    let cut : unsplit s f ≡ false = rw (e, lt-leb f 2 (omega arith)) in
+    rw x (sym (split-found q s f r c b k cut ∙ rw (field-header q s f e, e, z)))
 
 pub header-third : (q : Marks) (n : Numbers) (k : ℕ) (s : Text) (a : Found) → isHeader s ≡ true → 3 ≤ n .field
     → a ≡ leafBehind q (record { field = n .field - 2; repetition = n .repetition; component = n .component; subcomponent = n .subcomponent }) k 9 s
@@ -102,66 +122,33 @@ pub header-third : (q : Marks) (n : Numbers) (k : ℕ) (s : Text) (a : Found) �
 header-third q n k s a e l g = g ∙ (third q (n .field) (n .repetition) (n .component) (n .subcomponent) k s e l)
 
 -- MSH-1 and MSH-2: unsplit, and Empty beyond the first leaf
-whole-piece : (n : ℕ) (t : Text) (x : Bool) → eqb n 1 ≡ x → piece n (t ∷ []) ≡ pick x t []
-whole-piece zero t true e = not-true e
-whole-piece zero t false e = refl
-whole-piece (suc zero) t true e = refl
-whole-piece (suc zero) t false e = not-true (sym e)
-whole-piece (suc (suc i)) t true e = absurd (omega (arith, eqb-true (suc (suc i)) 1 e))
-whole-piece (suc (suc i)) t false e = refl
-
-three-picks : (x y z : Bool) (t : Text) → pick z (pick y (pick x t []) []) [] ≡ pick (x && y && z) t []
-three-picks true true z t = refl
-three-picks true false true t = refl
-three-picks true false false t = refl
-three-picks false true true t = refl
-three-picks false true false t = refl
-three-picks false false true t = refl
-three-picks false false false t = refl
-
-whole-leaf : (q : Marks) (r c b : ℕ) (t : Text) → part true (inField q r c b) t ≡ pick (eqb r 1 && eqb c 1 && eqb b 1) t []
-unfolding part
-whole-leaf q r c b t =
-    let x = eqb r 1 in
-    let y = eqb c 1 in
-    let z = eqb b 1 in
-    rw (whole-piece r t x refl, whole-piece c (pick x t []) y refl, whole-piece b (pick y (pick x t []) []) z refl) (three-picks x y z t)
-
-whole-start : (ss : List Step) (t : Text) → partStart true ss t ≡ 0
-unfolding partStart
-whole-start [] t = refl
-whole-start (s ∷ ss) t = omega (arith, whole-start ss (piece (s .number) (t ∷ [])))
-
 module _ (q : Marks) (r c b k : ℕ) (s : Text) (e : isHeader s ≡ true) where
   abbrev numbered : ℕ → Numbers
   numbered f = record { field = f; repetition = r; component = c; subcomponent = b }
 
   whole-none : (f : ℕ) → leb f 2 ≡ true → eqb r 1 && eqb c 1 && eqb b 1 ≡ false → Empty ≡ leafFound q (numbered f) k s
-  unfolding leafAt leafStart
-  whole-none f l o = shown-none (k + leafStart q s f r c b) (leafAt q s f r c b) (rw (e, l, whole-leaf q r c b (field q s f), o))
+  whole-none f l o = sym (one-found q s f r c b k (rw (e, l)) ∙ rw o)
 
   one-leaf : (f : ℕ) → leb f 2 ≡ true → eqb r 1 && eqb c 1 && eqb b 1 ≡ true
       → shown (k + fieldStart q s f) (field q s f) ≡ leafFound q (numbered f) k s
-  unfolding leafAt leafStart
   one-leaf f l o =
-      let t = field q s f in
-      let z : fieldStart q s f + partStart true (inField q r c b) t ≡ fieldStart q s f = omega (arith, whole-start (inField q r c b) t) in
-      rw (e, l, whole-leaf q r c b t, o, z)
+      let z : fieldStart q s f + 0 ≡ fieldStart q s f = omega arith in
+      sym (one-found q s f r c b k (rw (e, l)) ∙ rw (o, z))
 
   pub header-none : (f : ℕ) → f < 3 → not (eqb r 1 && eqb c 1 && eqb b 1) ≡ true → Empty ≡ leafFound q (numbered f) k s
   header-none f l o = whole-none f (le-leb f 2 (omega arith)) (tests.not-true (eqb r 1 && eqb c 1 && eqb b 1) o)
 
   pub header-first : (f : ℕ) → f ≡ 1 → not (eqb r 1 && eqb c 1 && eqb b 1) ≡ false
       → shown (k + 3) (drop 3 (take 4 s)) ≡ leafFound q (numbered f) k s
-  unfolding field fieldStart
-  header-first f l o = rw l (rw e at (one-leaf 1 refl (tests.not-false (eqb r 1 && eqb c 1 && eqb b 1) o)))
+  unfolding fieldStart
+  header-first f l o = rw l (rw (e, field-header q s 1 e) at (one-leaf 1 refl (tests.not-false (eqb r 1 && eqb c 1 && eqb b 1) o)))
 
   pub header-second : (f : ℕ) → 1 ≤ f → f < 3 → (f ≡ 1 → ⊥) → not (eqb r 1 && eqb c 1 && eqb b 1) ≡ false
       → shown (k + 4) (drop 4 (take 8 s)) ≡ leafFound q (numbered f) k s
-  unfolding field fieldStart
+  unfolding fieldStart
   header-second f h l d o =
       let two : f ≡ 2 = omega (arith, d) in
-      rw two (rw e at (one-leaf 2 refl (tests.not-false (eqb r 1 && eqb c 1 && eqb b 1) o)))
+      rw two (rw (e, field-header q s 2 e) at (one-leaf 2 refl (tests.not-false (eqb r 1 && eqb c 1 && eqb b 1) o)))
 
 pub clip-length : (m : Text) (start end : ℕ) → start ≤ end → end ≤ length m → (a b : ℕ)
     → length (drop a (take b (within start end m))) ≡ min b (end - start) - a

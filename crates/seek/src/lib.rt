@@ -59,7 +59,7 @@ fn clip(start: usize, end: usize, a: usize, b: usize) -> Seen
     }
 }
 
-// The leaf of the fields that begin behind `skip` bytes of the segment m[start..end].
+// The leaf of the fields that begin after `skip` bytes of the segment m[start..end].
 fn leaf_behind(m: &[u8], start: usize, end: usize, skip: usize, q: Marks, n: Numbers) -> Seen
     requires { ⌜ (start ≤ end) × (end ≤ length (now m)) ⌝ }
     ensures { λ r. ⌜ leafTold r ≡ leafBehind q n start skip (within start end (now (m .entry))) ⌝ }
@@ -70,7 +70,7 @@ fn leaf_behind(m: &[u8], start: usize, end: usize, skip: usize, q: Marks, n: Num
     between(descend(m, start + skip, end, q, n, 4))
 }
 
-// The header's leaf: MSH-1 and MSH-2 are unsplit, and MSH-3 begins behind the ninth byte.
+// The header's leaf: MSH-1 and MSH-2 are unsplit, and MSH-3 begins after the ninth byte.
 fn header_leaf(m: &[u8], start: usize, end: usize, q: Marks, n: Numbers) -> Seen
     requires { ⌜ (start ≤ end) × ((end ≤ length (now m)) × (1 ≤ n .field)) ⌝ }
     requires { ⌜ isHeader (within start end (now m)) ≡ true ⌝ }

@@ -17,8 +17,10 @@ use Rattle.codes.specs.declared.rows.Rows.{Rows}
 use Rattle.codes.specs.Inner.{Lists, IsField, leavesAt, ruleAt}
 use Rattle.codes.proofs.OneField.{field-low}
 use Rattle.fields.specs.declared.field.ReadField.{ReadField}
-use Rattle.fields.specs.Judged.{repetitionsIn, filledIn, ReadsField}
-use Rattle.checks.specs.View.{Repetition, Field, filledFrom, fieldSeen}
+use Rattle.checks.specs.Repetition.{repetitionsIn}
+use Rattle.fields.specs.Judged.{filledIn, ReadsField}
+use Rattle.checks.specs.View.{Repetition, Field, fieldSeen}
+use Rattle.checks.specs.Repetition.{filledFrom}
 use Rattle.checks.specs.Fault.{Verdict, accepted, firstFilled, isRequired, repetitionChecks, fieldChecks, firstBroken}
 use Rattle.listing.specs.Listing.{HasNumber}
 use Rattle.located.specs.Listed.{leavesOfField}

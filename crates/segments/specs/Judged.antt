@@ -1,3 +1,4 @@
+-- Inner: no entry's promise is made of this.
 -- What only inner functions promise of judging a segment: the first broken check of its fields.
 use Prim.Native.Nat.{ℕ}
 use mathlib.Core.Path.{_≡_}

@@ -1,4 +1,4 @@
--- The observations of a group: the segments behind its OBR, counted from where it ends.
+-- The observations of a group: the segments after its OBR, counted from where it ends.
 use mathlib.Core.Path.{_≡_, refl, sym, ap}
 use Prim.Native.Nat.{ℕ, zero, suc, _+_, _≤_, _<_}
 use native.Mathlib.Numerals.{add-one}
@@ -10,18 +10,20 @@ use lib.Seq.{length-take-le, drop-drop}
 use lib.Dec.{ltb}
 use borrow.Author.Tests.{ltb-true, ltb-false}
 use Rattle.text.specs.Bytes.{Text, pick, bytes, cr, keep}
-use Rattle.parts.specs.Split.{before, reach, ended}
+use Rattle.parts.specs.Split.{ended}
+use Rattle.parts.specs.Start.{before, reach}
 use Rattle.parts.proofs.Split.{before-first}
 use Rattle.parts.proofs.Reach.{ended-next, ended-last, before-next}
 use Rattle.parts.proofs.Descent.{within-length}
 use Rattle.reader.specs.declared.standing.Standing.the-variants.{Segment}
-use Rattle.frame.specs.Segments.{segments, named, ofName, ahead}
+use Rattle.frame.specs.Segments.{segments, named, ofName}
+use Rattle.frame.specs.Starts.{ahead}
 use Rattle.reader.specs.Copied.{standing}
 use Rattle.frame.proofs.Segments.{ahead-named}
 use Rattle.reader.proofs.Seek.{standing-enough, standing-start, standing-inside, standing-text}
 use Rattle.reader.specs.Observations.{observations, observationsFrom, observationsOf}
 
--- where a piece that a separator ends stands, and what stands behind it
+-- where a piece that a separator ends stands, and what stands after it
 module _ (sep : ℕ) where
   ahead-step : (t : Text) (b : Bool) → ltb (reach sep t) (length t) ≡ b → 1 ≤ length (ended sep t) → reach sep t < length t
   ahead-step t true e h = ltb-true (reach sep t) (length t) e
@@ -69,7 +71,7 @@ unfolding keep
 ahead-inside n [] i h = absurd (omega arith)
 ahead-inside n (s ∷ ss) i h = inside-step n s ss (named n s) refl (ahead-inside n ss) i h
 
--- THE COUNT of the group whose OBR stands there, told from behind that OBR's CR
+-- THE COUNT of the group whose OBR stands there, told from after that OBR's CR
 pub group-count : (m : Text) (g a e : ℕ) → 1 ≤ g → Segment a e ≡ standing m (bytes "OBR") g
     → (e < length m) × (observations (segments (drop (e + 1) m)) ≡ observationsOf m g)
 group-count m zero a e l o = absurd (omega arith)

@@ -28,7 +28,7 @@ accepted-true accepted e = refl
 accepted-true (fault p n) e = not-true e
 
 module _ (m : Text) (g k : ℕ) (book slip : Text) (e : file profile01 m g k book ≡ given slip) where
-  -- no refusal applies: those of the frame, and those behind them
+  -- no refusal applies: those of the frame, and those after them
   tests : (framed m ≡ true)
       × (passes (test NotAccepted (not (isAccepted (verdict profile01 m))) ∷ test NoGroup (noGroup m g) ∷ test NoSlot (noSlot book k) ∷ []) ≡ true)
   unfolding file

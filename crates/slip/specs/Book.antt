@@ -1,3 +1,4 @@
+-- An entry's promise is made of this.
 -- Filing a group's slip in a slot of the book: 1 to 8, 15 to 17, or the slip filed.
 use Prim.Native.Nat.{ℕ, _+_}
 use mathlib.Core.Bool.{Bool, true, false, not, _||_}
@@ -24,11 +25,21 @@ noGroup m g = eqb g 0 || ltb (length (ofName (bytes "OBR") (segments m))) g
 
 -- the tests of an accepted message, and those before them
 abbrev pub ownTests : Text → ℕ → ℕ → Text → List Test
-ownTests m g k book = test NoGroup (noGroup m g) ∷ test NoSlot (noSlot book k) ∷ []
+ownTests m g k book =
+    -- 16 NO GROUP: group is 0 or above the number of OBR
+    test NoGroup (noGroup m g)
+    -- 17 NO SLOT: slot k (from 0) isn't below book length divided by 1,024, rounded down
+    ∷ test NoSlot (noSlot book k)
+    ∷ []
 
 abbrev pub fileTests : Table → Text → ℕ → ℕ → Text → List Test
 fileTests T m g k book =
-    frameTests m ++ (test NotAccepted (not (isAccepted (verdict T m))) ∷ ownTests m g k book)
+    -- 1 to 8
+    frameTests m
+    -- 15 NOT ACCEPTED: the message has a fault
+    ++ (test NotAccepted (not (isAccepted (verdict T m)))
+    -- 16, 17
+    ∷ ownTests m g k book)
 
 -- FILING group g in slot k
 unfoldable pub file : Table → Text → ℕ → ℕ → Text → Answer Text

@@ -1,3 +1,4 @@
+-- An entry's promise is made of this.
 -- The slip of a group: its exact bytes.
 use Prim.Native.Nat.{ℕ}
 use mathlib.Core.List.{List, [], _∷_}

@@ -1,3 +1,4 @@
+-- An entry's promise is made of this.
 -- What each case of a filing's answer tells: 01's number, or that it is done.
 use Rattle.text.specs.Answer.{Answer, refused, given, tell}
 use Rattle.text.specs.Bytes.{Text}

@@ -12,7 +12,7 @@ use libc::STDOUT_FILENO;
 use slip::Filed;
 use slip::SLOT_SIZE;
 
-// A byte of the slip is printed as two digits and what stands behind them.
+// A byte of the slip is printed as two digits and what stands after them.
 const LINES_SIZE: usize = 3 * SLOT_SIZE;
 
 // The lines that tell the slip's bytes, as it is filed in a book of one slot, or a refusal.
@@ -27,13 +27,6 @@ fn tell(m: &[u8], group: u64, out: &mut [u8]) -> usize
     }
 }
 
-// Argument 1 as a number. One of more than 4,096 digits is bad too.
-fn asked_group() -> Asked {
-    let mut word = io::buffer();
-    let n = os::arg(1, &mut word);
-    asked::asked_number(&word[..n])
-}
-
 fn show(group: u64) {
     // one byte more than the longest message, so that a longer one is seen to be too long
     let mut message = io::large_buffer();
@@ -45,7 +38,7 @@ fn show(group: u64) {
 
 fn main() {
     if os::arg_count() == 2 {
-        if let Asked::Number(group) = asked_group() {
+        if let Asked::Number(group) = asked::number_at(1) {
             show(group);
             return;
         }

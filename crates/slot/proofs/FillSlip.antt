@@ -1,4 +1,4 @@
--- A slip's fields, written one behind another into a slot of zeros.
+-- A slip's fields, written one after another into a slot of zeros.
 use mathlib.Core.Path.{_≡_, refl, ap, subst, _∙_}
 use Prim.Native.Nat.{ℕ, suc, _+_, _*_, _-_, _/_, _%_, _≤_, _<_}
 use native.Mathlib.Omega.{arith}
@@ -13,11 +13,12 @@ use Rattle.text.proofs.Tests.{empty-none, empty-some}
 use Rattle.text.proofs.Lists.{drop-replicate}
 use Rattle.text.proofs.Puts.{puts-length, puts-none, puts-one, puts-both, puts-front}
 use Rattle.escape.proofs.Escapes.{resolved-length}
-use Rattle.tags.specs.Fields.{countTag, longestText, headSize, countSize, longestField}
+use Rattle.tags.specs.Fields.{countTag, longestText, headSize, countSize}
+use Rattle.tags.specs.Inner.{longestField}
 use Rattle.slot.specs.Slot.{tagged, twoBytes, tagBytes, slotSize, slipOf}
 use Rattle.slot.specs.Inner.{Takes, valuesOf}
 
--- one byte behind a text
+-- one byte after a text
 puts-more : {before : Text} {at : ℕ} {t mid : Text} {k : ℕ} (j x : ℕ) → k ≡ j → j < length before → Puts before at t mid k
     → Puts before at (t ++ x ∷ []) (set mid j x) (j + 1)
 puts-more {before} {at} {t} {mid} j x e h p =
@@ -124,7 +125,7 @@ zeros-behind n {t} p = puts-front p ∙ rw (drop-replicate {A = ℕ} 0 (length t
 joined : (a b c d e f : Text) → ((((([] ++ a) ++ b) ++ c) ++ d) ++ e) ++ f ≡ a ++ (b ++ (c ++ (d ++ (e ++ (f ++ [])))))
 joined a b c d e f = simp (append-assoc, append-nil)
 
--- THE SLIP, when the count stands behind the five texts
+-- THE SLIP, when the count stands after the five texts
 pub slip-filled : (q : Marks) (control patient placer filler service : Text) (count : ℕ) (slip : Text) (at : ℕ) (after : Text) (r : ℕ)
     → Begun 5
     ((((([] ++ tagBytes (tagged 1 (resolved q control))) ++ tagBytes (tagged 2 (resolved q patient)))

@@ -1,3 +1,4 @@
+-- An entry's promise is made of this.
 -- The fields of a slip, and the slot that they fill: their exact bytes. Which slots a book has.
 use Prim.Native.Nat.{ℕ, _*_, _/_, _%_, _-_}
 use mathlib.Core.Bool.{Bool}

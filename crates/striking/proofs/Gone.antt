@@ -11,12 +11,15 @@ use Rattle.text.specs.Bytes.{Text, pick, bytes, keep, same}
 use Rattle.text.specs.declared.marks.Marks.{Marks}
 use Rattle.text.proofs.Tests.{not-true, same-true}
 use Rattle.parts.specs.Split.{split, piece}
-use Rattle.parts.specs.Descent.{part, inField}
+use Rattle.parts.specs.Descent.{inField}
+use Rattle.parts.specs.Span.{partText}
 use Rattle.parts.proofs.Descent.{piece-nil, part-nil}
 use Rattle.parts.proofs.Members.{no-piece}
 use Rattle.frame.specs.Segments.{name, named, ofName, field, unsplit}
 use Rattle.profile.specs.Table.{Table, Leaf, isListed}
-use Rattle.reader.specs.Place.{leafAt, leafIn}
+use Rattle.reader.specs.Place.{leafAt}
+use Rattle.reader.proofs.Leaf.{leaf-split}
+use Rattle.reader.specs.Repetition.{leafIn}
 use Rattle.striking.specs.Strike.{rewritten, onlyIf, hasComponent, hasLeaf, strikeSubcomponent, strikeComponent, strikeRepetition, hasField, fieldLeaves, strikeSegment}
 use Rattle.striking.proofs.Shrink.{piece-rewritten}
 use Rattle.striking.proofs.Kept.{subcomponent-shrinks, component-shrinks, strikeIn, in-shrinks, name-struck, field-struck, unsplit-struck}
@@ -30,25 +33,25 @@ module _ (q : Marks) (ls : List Leaf) where
       rw (piece-rewritten (q .subcomponent) (strikeSubcomponent ls c) (subcomponent-shrinks q ls c) t b, h)
   subcomponent-gone false t c b h = piece-nil (q .subcomponent) b
 
-  leaf-gone : (t : Text) (c b : ℕ) → hasLeaf ls c b ≡ false → leafIn q false (strikeRepetition q ls t) c b ≡ []
-  unfolding part
+  leaf-gone : (t : Text) (c b : ℕ) → hasLeaf ls c b ≡ false → leafIn q (strikeRepetition q ls t) c b ≡ []
+  unfolding partText
   leaf-gone t c b h =
       rw (piece-rewritten (q .component) (strikeComponent q ls) (component-shrinks q ls) t c)
       (subcomponent-gone (hasComponent ls c) (piece c (split (q .component) t)) c b h)
 
 -- 2. Of a segment, the leaves that are not listed go, but for MSH-1 and MSH-2
 module _ (T : Table) (q : Marks) (s : Text) (f r c b : ℕ) (h : hasLeaf (fieldLeaves T q s f) c b ≡ false) where
-  field-gone : (k : Bool) (t : Text) → part false (inField q r c b) (onlyIf k (rewritten (q .repetition) (strikeIn T q s f) t)) ≡ []
+  field-gone : (k : Bool) (t : Text) → partText (inField q r c b) (onlyIf k (rewritten (q .repetition) (strikeIn T q s f) t)) ≡ []
   field-gone true t =
-      unfold part in
+      unfold partText in
       rw (piece-rewritten (q .repetition) (strikeIn T q s f) (in-shrinks T q s f) t r)
       (leaf-gone q (fieldLeaves T q s f) (piece r (split (q .repetition) t)) c b h)
   field-gone false t = part-nil (inField q r c b)
 
   pub leaf-struck-out : unsplit s f ≡ false → leafAt q (strikeSegment T q s) f r c b ≡ []
-  unfolding leafAt
   leaf-struck-out e =
-      rw (unsplit-struck T q s f, field-struck T q s f, e) (field-gone (hasField T (name s) f) (field q s f))
+      leaf-split q (strikeSegment T q s) f r c b (unsplit-struck T q s f ∙ e)
+      ∙ rw (field-struck T q s f, e) (field-gone (hasField T (name s) f) (field q s f))
 
 -- 3. A segment that the table does not name goes
 module _ (T : Table) (q : Marks) (n : Text) (unlisted : isListed T n ≡ false) where

@@ -1,5 +1,5 @@
 -- A struck segment keeps its name and its listed leaves.
-use mathlib.Core.Path.{_≡_, refl, ap}
+use mathlib.Core.Path.{_≡_, refl, sym, ap, _∙_}
 use Prim.Native.Nat.{ℕ, zero, suc, _≤_}
 use native.Mathlib.Omega.{arith}
 use mathlib.Core.Bool.{Bool, true, false, not, _&&_}
@@ -12,10 +12,14 @@ use Rattle.text.specs.declared.marks.Marks.{Marks}
 use Rattle.text.proofs.Tests.{both}
 use Rattle.text.proofs.Lists.{some-mono}
 use Rattle.parts.specs.Split.{split, piece}
-use Rattle.parts.specs.Descent.{part, inField}
-use Rattle.frame.specs.Segments.{name, isHeader, headerField, field, unsplit}
+use Rattle.parts.specs.Span.{partText}
+use Rattle.frame.specs.Segments.{name, isHeader, field, unsplit}
+use Rattle.frame.specs.Starts.{headerField}
 use Rattle.profile.specs.Table.{Table, Leaf, Row}
-use Rattle.reader.specs.Place.{leafAt, leafIn}
+use Rattle.frame.proofs.Segments.{field-is}
+use Rattle.reader.specs.Place.{leafAt}
+use Rattle.reader.proofs.Leaf.{leafText, leaf-is}
+use Rattle.reader.specs.Repetition.{leafIn}
 use Rattle.striking.specs.Strike.{rewritten, hasComponent, hasLeaf, strikeSubcomponent, strikeComponent, strikeRepetition, rowsAt, hasField, fieldLeaves, strikeField, afterNinth, strikeAfterNinth, strikeHeader, strikeOther, strikeSegment}
 use Rattle.striking.proofs.Shrink.{Sub, sub-self, sub-only, sub-behind, take-front, drop-front, Shrinks, rewritten-sub, piece-rewritten, rewritten-empty}
 
@@ -36,8 +40,8 @@ module _ (q : Marks) (ls : List Leaf) where
       some-mono (λ (l : Leaf). eqb (l .component) c && eqb (l .subcomponent) b) (λ (l : Leaf). eqb (l .component) c)
       (λ l e. both (eqb (l .component) c) (eqb (l .subcomponent) b) e .0) ls h
 
-  pub leaf-kept : (t : Text) (c b : ℕ) → hasLeaf ls c b ≡ true → leafIn q false (strikeRepetition q ls t) c b ≡ leafIn q false t c b
-  unfolding part
+  pub leaf-kept : (t : Text) (c b : ℕ) → hasLeaf ls c b ≡ true → leafIn q (strikeRepetition q ls t) c b ≡ leafIn q t c b
+  unfolding partText
   leaf-kept t c b h =
       let p = piece c (split (q .component) t) in
       rw (
@@ -80,11 +84,11 @@ module _ (T : Table) (q : Marks) (s : Text) where
   field-shrinks f t =
       sub-only (hasField T (name s) f) (rewritten-sub (q .repetition) (strikeIn f) (in-shrinks f) t)
 
-  part-kept : (w : Bool) (t : Text) (f r c b : ℕ) → hasLeaf (fieldLeaves T q s f) c b ≡ true
-      → part w (inField q r c b) (unless w (strikeField T q s f) t) ≡ part w (inField q r c b) t
-  part-kept true t f r c b h = refl
-  part-kept false t f r c b h =
-      unfold part in
+  text-kept : (w : Bool) (t : Text) (f r c b : ℕ) → hasLeaf (fieldLeaves T q s f) c b ≡ true
+      → leafText w q (unless w (strikeField T q s f) t) r c b ≡ leafText w q t r c b
+  text-kept true t f r c b h = refl
+  text-kept false t f r c b h =
+      unfold partText in
       rw (has-field f c b h, piece-rewritten (q .repetition) (strikeIn f) (in-shrinks f) t r)
       (leaf-kept q (fieldLeaves T q s f) (piece r (split (q .repetition) t)) c b h)
 
@@ -134,17 +138,20 @@ module _ (T : Table) (q : Marks) (s : Text) where
   field-by false f = other-field f
 
   pub field-struck : (f : ℕ) → field q (strikeSegment T q s) f ≡ unless (unsplit s f) (strikeField T q s f) (field q s f)
-  unfolding field
-  field-struck f = rw name-struck (unfold strikeSegment in field-by (isHeader s) f)
+  field-struck f =
+      field-is q (strikeSegment T q s) f
+      ∙ rw name-struck (unfold strikeSegment in field-by (isHeader s) f)
+      ∙ ap (unless (unsplit s f) (strikeField T q s f)) (sym (field-is q s f))
 
   pub unsplit-struck : (f : ℕ) → unsplit (strikeSegment T q s) f ≡ unsplit s f
   unsplit-struck f = rw name-struck
 
   -- THE LISTED LEAVES STAY
   pub leaf-struck : (f r c b : ℕ) → hasLeaf (fieldLeaves T q s f) c b ≡ true → leafAt q (strikeSegment T q s) f r c b ≡ leafAt q s f r c b
-  unfolding leafAt
   leaf-struck f r c b h =
-      rw (field-struck f, unsplit-struck f) (part-kept (unsplit s f) (field q s f) f r c b h)
+      leaf-is q (strikeSegment T q s) f r c b
+      ∙ rw (field-struck f, unsplit-struck f) (text-kept (unsplit s f) (field q s f) f r c b h)
+      ∙ sym (leaf-is q s f r c b)
 
   segment-by : (b : Bool) → Sub (pick b (strikeHeader T q s) (strikeOther T q s)) s
   segment-by true = sub-behind 9 s (rewritten (q .field) (strikeAfterNinth T q s)) (rewritten-sub (q .field) (strikeAfterNinth T q s) after-shrinks)

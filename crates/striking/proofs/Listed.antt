@@ -14,6 +14,7 @@ use Rattle.parts.specs.Split.{piece}
 use Rattle.frame.specs.Segments.{segments, name, named, ofName, occurrence}
 use Rattle.profile.specs.Table.{Table, isListed}
 use Rattle.reader.specs.Place.{Place, textAt}
+use Rattle.reader.proofs.Stands.{text-is}
 use Rattle.striking.specs.Strike.{isListedPlace, hasLeaf, fieldLeaves, strikeSegment, strike}
 use Rattle.striking.proofs.Shrink.{sub-empty}
 use Rattle.striking.proofs.Kept.{name-struck, leaf-struck, segment-sub}
@@ -87,14 +88,12 @@ module _ (T : Table) (m : Text) where
   module _ (marks : marksOf (strike T m) ≡ marksOf m) (p : Place) (l : isListed T (p .name) ≡ true) where
     -- where there is no such segment, there is no text
     pub text-none : occurrence m (p .name) (p .occurrence) ≡ [] → textAt (strike T m) p ≡ textAt m p
-    unfolding textAt
-    text-none e = rw (marks, occurrence-struck (p .name) (p .occurrence) l, e, none-struck)
+    text-none e = rw (text-is (strike T m) p, text-is m p, marks, occurrence-struck (p .name) (p .occurrence) l, e, none-struck)
 
     pub text-same : hasLeaf (fieldLeaves T (marksOf m) (occurrence m (p .name) (p .occurrence)) (p .field)) (p .component) (p .subcomponent) ≡ true
         → textAt (strike T m) p ≡ textAt m p
-    unfolding textAt
     text-same h =
-        rw (marks, occurrence-struck (p .name) (p .occurrence) l)
+        rw (text-is (strike T m) p, text-is m p, marks, occurrence-struck (p .name) (p .occurrence) l)
         (leaf-struck T (marksOf m) (occurrence m (p .name) (p .occurrence)) (p .field) (p .repetition) (p .component) (p .subcomponent) h)
 
   -- AT A LISTED PLACE the text is as it was

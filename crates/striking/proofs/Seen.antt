@@ -1,7 +1,8 @@
 -- A struck segment is seen as the segment was.
 use mathlib.Core.Path.{_≡_, refl, sym, ap, _∙_}
-use Prim.Native.Nat.{ℕ, suc}
+use Prim.Native.Nat.{ℕ, zero, suc}
 use native.Mathlib.Omega.{arith}
+use mathlib.Core.Logic.{_⊎_, inl, inr}
 use mathlib.Core.Bool.{Bool, true, false, _&&_}
 use mathlib.Core.List.{List, [], _∷_, flatMap}
 use lib.ListN.{length}
@@ -12,17 +13,16 @@ use Rattle.text.specs.declared.marks.Marks.{Marks}
 use Rattle.text.proofs.Tests.{not-true, both, same-true}
 use Rattle.text.proofs.Lists.{All, and-both, or-left, all-map, all-both, all-keep, all-kept, every-all, some-mono, some-flatMap, map-same, flatMap-same, all-flatMap, Member, all-members, some-kept}
 use Rattle.parts.specs.Split.{split}
-use Rattle.parts.specs.Descent.{cut}
 use Rattle.frame.specs.Segments.{name, field, unsplit}
 use Rattle.profile.specs.Table.{Table, Leaf, Listed, leaf, named-by, Usage, Row, Rule, rulesOf, leavesIn}
 use Rattle.profile.proofs.Gathered.{RowOk, RuleOk, gathered-all}
-use Rattle.reader.proofs.Filled.{none-filled}
-use Rattle.reader.specs.Place.{leafIn, repetitions}
-use Rattle.reader.specs.View.{Field, entriesOf, filledFrom, namedIn, fieldSeen, segmentSeen}
-use Rattle.striking.specs.Strike.{change, hasLeaf, rowsAt, hasField, fieldLeaves, strikeField, strikeSegment}
-use Rattle.profile.specs.Fit.{listsComponent, hasRow, namerListed, mayRepeat, rowFit, fit}
-use Rattle.striking.proofs.Shrink.{split-rewritten, count-rewritten, rewritten-empty}
-use Rattle.striking.proofs.Kept.{leaf-kept, unless, strikeIn, in-shrinks, name-struck, field-struck, unsplit-struck, leaf-struck}
+use Rattle.reader.proofs.Leaf.{count-is, leaf-beyond}
+use Rattle.reader.specs.Place.{leafAt, repetitions}
+use Rattle.reader.specs.View.{Entry, Field, entriesAt, isFilled, filledUpTo, namedIn, fieldSeen, segmentSeen}
+use Rattle.striking.specs.Strike.{hasLeaf, rowsAt, hasField, fieldLeaves, strikeField, strikeSegment}
+use Rattle.profile.specs.Fit.{listsComponent, hasRow, namerListed, allowsOne, rowFit, fit}
+use Rattle.striking.proofs.Shrink.{count-rewritten, rewritten-empty}
+use Rattle.striking.proofs.Kept.{unless, strikeIn, in-shrinks, name-struck, field-struck, unsplit-struck, leaf-struck}
 
 -- 1. A leaf with a row is listed
 lists-leaf : (T : Table) (names : ℕ → Text) (c : ℕ) (x : Listed) → listsComponent c x ≡ true
@@ -101,7 +101,7 @@ module _ (T : Table) (q : Marks) (s : Text) where
 
   row-ok : (r : Row) → (Fit r × Member (T .rows) r) × (same (r .segment) (name s) ≡ true) → RowOk Lists Says r
   row-ok r h =
-      let w = both (mayRepeat r) (namerListed T (r .segment) (r .lists)) (h .0 .0) in
+      let w = both (allowsOne r) (namerListed T (r .segment) (r .lists)) (h .0 .0) in
       let e = h .1 in (
         (
           same-leaves (r .lists) (rw (same-true (r .segment) (name s) e) at (w .1)),
@@ -126,23 +126,26 @@ module _ (T : Table) (q : Marks) (s : Text) where
       (all-kept named (T .rows))))
 
 -- 3. The repetitions of a field, before and after
-module _ (q : Marks) where
-  abbrev reps : Bool → Text → List Text
-  reps w t = pick (empty t) [] (cut w (q .repetition) t)
+-- as many as before; or one that has no byte left
+abbrev SameCount : ℕ → ℕ → Type 0
+SameCount after before = (after ≡ before) ⊎ ((after ≡ 0) × (before ≡ 1))
 
-  -- a field of no bytes has no filled repetition, whether it is taken for none or for one
-  filled-all : (ls : List Leaf) (k : ℕ) (t : Text)
-      → filledFrom k (entriesOf q false ls) (reps false t) ≡ filledFrom k (entriesOf q false ls) (split (q .repetition) t)
-  unfolding filledFrom split
-  filled-all ls k [] = rw (none-filled q ls)
-  filled-all ls k (b ∷ t) = refl
+module _ (sep : ℕ) (struck : Text → Text) (none : struck [] ≡ []) (same-split : (t : Text) → length (split sep (struck t)) ≡ length (split sep t)) where
+  abbrev count : Bool → Text → ℕ
+  count w t = pick (empty t) 0 (pick w 1 (length (split sep t)))
+
+  count-by : (b : ℕ) (t u : Text) → length (split sep u) ≡ length (split sep (b ∷ t)) → SameCount (count false u) (count false (b ∷ t))
+  count-by b t [] e = inr (refl, unfold split in sym e)
+  count-by b t (c ∷ u) e = inl e
+
+  count-struck : (w : Bool) (t : Text) → SameCount (count w (unless w struck t)) (count w t)
+  count-struck true t = inl refl
+  count-struck false [] = inl (rw none)
+  count-struck false (b ∷ t) = count-by b t (struck (b ∷ t)) (same-split (b ∷ t))
 
 module _ (T : Table) (q : Marks) (s : Text) (f : ℕ) (has : hasField T (name s) f ≡ true) where
   abbrev struck : Text → Text
   struck t = strikeField T q s f t
-
-  struck-split : (t : Text) → split (q .repetition) (struck t) ≡ change (strikeIn T q s f) (split (q .repetition) t)
-  struck-split t = rw has (split-rewritten (q .repetition) (strikeIn T q s f) (in-shrinks T q s f) t)
 
   struck-count : (t : Text) → length (split (q .repetition) (struck t)) ≡ length (split (q .repetition) t)
   struck-count t = rw has (count-rewritten (q .repetition) (strikeIn T q s f) (in-shrinks T q s f) t)
@@ -150,63 +153,54 @@ module _ (T : Table) (q : Marks) (s : Text) (f : ℕ) (has : hasField T (name s)
   struck-none : struck [] ≡ []
   struck-none = rw has (rewritten-empty (q .repetition) (strikeIn T q s f) (in-shrinks T q s f))
 
-  -- one repetition or none: neither is too many
-  count-by : (n b : ℕ) (t u : Text) → leb 1 n ≡ true → length (split (q .repetition) u) ≡ length (split (q .repetition) (b ∷ t))
-      → ltb n (length (reps q false u)) ≡ ltb n (length (reps q false (b ∷ t)))
-  count-by n b t [] l e =
-      rw (le-ltb n 0 (omega arith), ← e) (sym (unfold split in le-ltb n 1 (leb-true 1 n l)))
-  count-by n b t (c ∷ u) l e = ap (ltb n) e
+  repetitions-struck : SameCount (repetitions q (strikeSegment T q s) f) (repetitions q s f)
+  repetitions-struck =
+      rw (count-is q (strikeSegment T q s) f, count-is q s f, field-struck T q s f, unsplit-struck T q s f)
+      (count-struck (q .repetition) struck struck-none struck-count (unsplit s f) (field q s f))
 
-  surplus-same : (w : Bool) (n : ℕ) (t : Text) → leb 1 n ≡ true → ltb n (length (reps q w (unless w struck t))) ≡ ltb n (length (reps q w t))
-  surplus-same true n t l = refl
-  surplus-same false n [] l = rw struck-none
-  surplus-same false n (b ∷ t) l = count-by n b t (struck (b ∷ t)) l (struck-count (b ∷ t))
+-- one repetition or none: neither is too many
+surplus-same : (n a b : ℕ) → leb 1 n ≡ true → SameCount a b → ltb n a ≡ ltb n b
+surplus-same n a b l (inl e) = ap (ltb n) e
+surplus-same n a b l (inr e) = rw (e .0, e .1) (le-ltb n 0 (omega arith) ∙ sym (le-ltb n 1 (leb-true 1 n l)))
 
-  module _ (ls : List Leaf) (all : All (λ (l : Leaf). hasLeaf (fieldLeaves T q s f) (l .component) (l .subcomponent) ≡ true) ls) where
-    entries-same : (t : Text) → entriesOf q false ls (strikeIn T q s f 1 t) ≡ entriesOf q false ls t
-    entries-same t =
-        map-same
-        (λ (l : Leaf). record { leaf = l; text = leafIn q false (strikeIn T q s f 1 t) (l .component) (l .subcomponent) })
-        (λ (l : Leaf). record { leaf = l; text = leafIn q false t (l .component) (l .subcomponent) })
-        ls
-        (all-map (λ (l : Leaf). hasLeaf (fieldLeaves T q s f) (l .component) (l .subcomponent) ≡ true) _
-        (λ l e. rw (leaf-kept q (fieldLeaves T q s f) t (l .component) (l .subcomponent) e)) ls all)
+-- the same leaves, the same filled repetitions
+filled-read : (a b : ℕ → List Entry) → ((r : ℕ) → a r ≡ b r) → (k n : ℕ) → filledUpTo a k n ≡ filledUpTo b k n
+unfolding filledUpTo
+filled-read a b h k zero = refl
+filled-read a b h k (suc n) = rw (h k, filled-read a b h (suc k) n)
 
-    filled-change : (k : ℕ) (ts : List Text)
-        → filledFrom k (entriesOf q false ls) (change (strikeIn T q s f) ts) ≡ filledFrom k (entriesOf q false ls) ts
-    unfolding filledFrom change
-    filled-change k [] = refl
-    filled-change k (t ∷ ts) = rw (entries-same t, filled-change (suc k) ts)
+one-none : (a b : ℕ → List Entry) → isFilled (b 1) ≡ false → filledUpTo a 1 0 ≡ filledUpTo b 1 1
+unfolding filledUpTo
+one-none a b e = rw e
 
-    filled-same : (w : Bool) (t : Text) → filledFrom 1 (entriesOf q w ls) (reps q w (unless w struck t)) ≡ filledFrom 1 (entriesOf q w ls) (reps q w t)
-    filled-same true t = refl
-    filled-same false t =
-        filled-all q ls 1 (struck t)
-        ∙ ap (filledFrom 1 (entriesOf q false ls)) (struck-split t)
-        ∙ filled-change 1 (split (q .repetition) t)
-        ∙ sym (filled-all q ls 1 t)
+module _ (T : Table) (q : Marks) (s : Text) (f : ℕ) (has : hasField T (name s) f ≡ true)
+    (ls : List Leaf) (all : All (λ (l : Leaf). hasLeaf (fieldLeaves T q s f) (l .component) (l .subcomponent) ≡ true) ls) where
+  abbrev left : Text
+  left = strikeSegment T q s
+
+  entries-same : (r : ℕ) → entriesAt q left f ls r ≡ entriesAt q s f ls r
+  entries-same r =
+      map-same
+      (λ (l : Leaf). record { leaf = l; text = leafAt q left f r (l .component) (l .subcomponent) })
+      (λ (l : Leaf). record { leaf = l; text = leafAt q s f r (l .component) (l .subcomponent) })
+      ls
+      (all-map (λ (l : Leaf). hasLeaf (fieldLeaves T q s f) (l .component) (l .subcomponent) ≡ true) _
+      (λ l e. rw (leaf-struck T q s f r (l .component) (l .subcomponent) e)) ls all)
+
+  -- where no repetition is left, the one that was there has no listed leaf
+  none-filled : (ms : List Leaf) → repetitions q left f ≡ 0 → isFilled (entriesAt q left f ms 1) ≡ false
+  unfolding some
+  none-filled [] e = refl
+  none-filled (l ∷ ms) e = rw (leaf-beyond q left f 0 (l .component) (l .subcomponent) (omega (arith, e))) (none-filled ms e)
+
+  filled-by : (a b : ℕ) → repetitions q left f ≡ a → SameCount a b → filledUpTo (entriesAt q left f ls) 1 a ≡ filledUpTo (entriesAt q s f ls) 1 b
+  filled-by a b z (inl e) = rw e (filled-read (entriesAt q left f ls) (entriesAt q s f ls) entries-same 1 b)
+  filled-by a b z (inr e) =
+      let no : isFilled (entriesAt q s f ls 1) ≡ false = rw (← entries-same 1) (none-filled ls (z ∙ e .0)) in
+      rw (e .0, e .1) (one-none (entriesAt q left f ls) (entriesAt q s f ls) no)
 
 -- 4. A field, a segment
 module _ (T : Table) (q : Marks) (s : Text) where
-  abbrev shown : Rule → List Leaf → Bool → Text → Field
-  shown u ls w t =
-      record {
-        rule = u;
-        surplus = ltb (u .repetitions) (length (reps q w t));
-        filled = filledFrom 1 (entriesOf q w ls) (reps q w t);
-      }
-
-  shown-same : (u : Rule) (ls : List Leaf) (w : Bool) (t : Text) → hasField T (name s) (u .field) ≡ true → leb 1 (u .repetitions) ≡ true
-      → All (λ (l : Leaf). hasLeaf (fieldLeaves T q s (u .field)) (l .component) (l .subcomponent) ≡ true) ls
-      → shown u ls w (unless w (strikeField T q s (u .field)) t) ≡ shown u ls w t
-  shown-same u ls w t has l all =
-      λ i.
-      record {
-        rule = u;
-        surplus = surplus-same T q s (u .field) has w (u .repetitions) t l i;
-        filled = filled-same T q s (u .field) has ls all w t i;
-      }
-
   lists-same : (f : ℕ) (xs : List Listed) → All (Lists T q s f) xs → flatMap (leavesIn T (after T q s)) xs ≡ flatMap (leavesIn T (before T q s)) xs
   lists-same f xs a =
       flatMap-same (leavesIn T (after T q s)) (leavesIn T (before T q s)) xs
@@ -219,11 +213,14 @@ module _ (T : Table) (q : Marks) (s : Text) where
       (all-map (Lists T q s f) (λ x. All (λ (l : Leaf). hasLeaf (fieldLeaves T q s f) (l .component) (l .subcomponent) ≡ true) (leavesIn T (before T q s) x)) (λ x h. h .1) xs a)
 
   field-same : (u : Rule) → RuleOk (Lists T q s) (Says T q s) u → fieldSeen T q (strikeSegment T q s) u ≡ fieldSeen T q s u
-  unfolding fieldSeen repetitions
+  unfolding fieldSeen
   field-same u h =
-      rw (field-struck T q s (u .field), unsplit-struck T q s (u .field), lists-same (u .field) (u .lists) (h .0))
-      (shown-same u (flatMap (leavesIn T (before T q s)) (u .lists)) (unsplit s (u .field)) (field q s (u .field)) (h .1 .0) (h .1 .1)
-      (lists-listed (u .field) (u .lists) (h .0)))
+      let f = u .field in
+      let ls = flatMap (leavesIn T (before T q s)) (u .lists) in
+      let counted = repetitions-struck T q s f (h .1 .0) in
+      let filled = filled-by T q s f (h .1 .0) ls (lists-listed f (u .lists) (h .0)) (repetitions q (strikeSegment T q s) f) (repetitions q s f) refl counted in
+      let surplus = surplus-same (u .repetitions) (repetitions q (strikeSegment T q s) f) (repetitions q s f) (h .1 .1) counted in
+      rw (lists-same f (u .lists) (h .0)) (λ i. record { rule = u; surplus = surplus i; filled = filled i })
 
   -- THE SEGMENT IS SEEN AS IT WAS
   pub segment-same : fit T ≡ true → segmentSeen T q (strikeSegment T q s) ≡ segmentSeen T q s

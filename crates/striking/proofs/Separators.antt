@@ -13,7 +13,7 @@ use Rattle.frame.specs.Segments.{name, isHeader, field, unsplit}
 use Rattle.profile.specs.Table.{Table}
 use Rattle.parts.proofs.Descent.{piece-nil}
 use Rattle.striking.specs.Strike.{rewritten, onlyIf, hasComponent, strikeSubcomponent, strikeComponent, hasField, fieldLeaves, strikeField, strikeAfterNinth, strikeHeader, strikeOther, strikeSegment}
-use Rattle.striking.specs.Striking.{pieces, Leaves}
+use Rattle.striking.specs.Striking.{pieces, WhatIsLeft}
 use Rattle.striking.proofs.Shrink.{piece-rewritten, count-rewritten}
 use Rattle.striking.proofs.Kept.{subcomponent-shrinks, component-shrinks, unless, component-field, strikeIn, in-shrinks, field-shrinks, field-struck, after-shrinks}
 
@@ -25,7 +25,7 @@ front-count false b [] (r ∷ rs) e = absurd (omega arith)
 front-count false b (p ∷ ps) [] e = absurd (omega arith)
 front-count false b (p ∷ ps) (r ∷ rs) e = e
 
--- behind bytes that stay, pieces as many as before
+-- after bytes that stay, pieces as many as before
 count-behind : (sep : ℕ) (F : Text → Text) → ((t : Text) → pieces sep (F t) ≡ pieces sep t)
     → (k : ℕ) (s : Text) → pieces sep (take k s ++ F (drop k s)) ≡ pieces sep s
 unfolding split
@@ -91,7 +91,7 @@ module _ (T : Table) (q : Marks) (s : Text) (f : ℕ) where
   component-gone false t r c h = rw (piece-nil (q .repetition) r) (piece-nil (q .component) c)
 
 -- WHAT IS LEFT of a segment
-pub leaves : (T : Table) (q : Marks) (s : Text) → Leaves T q s (strikeSegment T q s)
+pub leaves : (T : Table) (q : Marks) (s : Text) → WhatIsLeft T q s (strikeSegment T q s)
 leaves T q s =
     record {
       fields = segment-count T q s;

@@ -1,2 +1,3 @@
+-- A demand is said with these.
 pub mod Strike
 pub mod Striking

@@ -1,3 +1,4 @@
+-- A demand is said with this.
 -- Demand 3 takes a message and strikes out, beyond its first nine bytes, each segment that the table doesn't name, its CR too, and
 -- the content of each unlisted field, component and subcomponent; the separators around them stay.
 use Prim.Native.Nat.{ℕ, suc}
@@ -9,7 +10,7 @@ use Rattle.text.specs.Bytes.{Text, pick, cr, empty, some, keep, same}
 use Rattle.text.specs.declared.marks.Marks.{Marks}
 use Rattle.text.specs.Marks.{marksOf}
 use Rattle.parts.specs.Split.{split, join, closed}
-use Rattle.frame.specs.Segments.{name, isHeader, occurrence}
+use Rattle.frame.specs.Segments.{name, isHeader, occurrence, headerSize, openingSize}
 use Rattle.profile.specs.Table.{Table, Leaf, Row, isListed, leavesIn}
 use Rattle.reader.specs.Place.{Place}
 use Rattle.reader.specs.View.{namedIn, listedSegments}
@@ -51,7 +52,7 @@ rowsAt T n f = keep (λ (r : Row). same (r .segment) n && eqb (r .field) f) (T .
 abbrev pub hasField : Table → Text → ℕ → Bool
 hasField T n f = not (empty (rowsAt T n f))
 
--- the listed leaves of field f of a segment
+-- the listed leaves of field f of a segment: row by row, since the rows of any table need not rise
 unfoldable pub fieldLeaves : Table → Marks → Text → ℕ → List Leaf
 fieldLeaves T q s f = flatMap (λ (r : Row). leavesIn T (namedIn q s) (r .lists)) (rowsAt T (name s) f)
 
@@ -59,7 +60,7 @@ abbrev pub strikeField : Table → Marks → Text → ℕ → Text → Text
 strikeField T q s f t =
     onlyIf (hasField T (name s) f) (rewritten (q .repetition) (λ r p. strikeRepetition q (fieldLeaves T q s f) p) t)
 
--- the header's first nine bytes stay, and MSH-3 follows them; any other segment's name stays with its separator
+-- the header's first nine bytes stay, and MSH-3 follows them: piece k after the ninth byte is field k + 2. Any other segment's name stays with its separator
 abbrev pub afterNinth : ℕ → ℕ
 afterNinth k = suc (suc k)
 
@@ -67,10 +68,10 @@ abbrev pub strikeAfterNinth : Table → Marks → Text → ℕ → Text → Text
 strikeAfterNinth T q s k t = strikeField T q s (afterNinth k) t
 
 abbrev pub strikeHeader : Table → Marks → Text → Text
-strikeHeader T q s = take 9 s ++ rewritten (q .field) (strikeAfterNinth T q s) (drop 9 s)
+strikeHeader T q s = take headerSize s ++ rewritten (q .field) (strikeAfterNinth T q s) (drop headerSize s)
 
 abbrev pub strikeOther : Table → Marks → Text → Text
-strikeOther T q s = take 4 s ++ rewritten (q .field) (strikeField T q s) (drop 4 s)
+strikeOther T q s = take openingSize s ++ rewritten (q .field) (strikeField T q s) (drop openingSize s)
 
 unfoldable pub strikeSegment : Table → Marks → Text → Text
 strikeSegment T q s = pick (isHeader s) (strikeHeader T q s) (strikeOther T q s)
@@ -79,7 +80,8 @@ strikeSegment T q s = pick (isHeader s) (strikeHeader T q s) (strikeOther T q s)
 unfoldable pub strike : Table → Text → Text
 strike T m = closed cr (map (strikeSegment T (marksOf m)) (listedSegments T m))
 
--- A LISTED PLACE: the table names its segment, and lists its leaf for that segment, where there is one
+-- A LISTED PLACE: the table names its segment, and lists its leaf for that segment. Where the message has no such segment, each place of it counts, since both
+-- look-ups are refused alike
 abbrev pub isListedPlace : Table → Text → Place → Bool
 isListedPlace T m p =
     let s = occurrence m (p .name) (p .occurrence) in

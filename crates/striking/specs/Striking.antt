@@ -1,3 +1,4 @@
+-- A demand is said with this.
 -- WHAT STRIKING DOES, so that demand 3 is not empty: what the table lists stays, all else goes, and the separators around it stay.
 use mathlib.Core.Path.{_≡_}
 use Prim.Native.Nat.{ℕ}
@@ -36,7 +37,7 @@ componentOf q s f r c = piece c (split (q .component) (repetitionOf q s f r))
 
 -- WHAT IS LEFT of a segment: it has as many fields; a listed field as many repetitions, and each of these as many components; a listed
 -- component as many subcomponents. An unlisted field and an unlisted component have no bytes left; MSH-1 and MSH-2 are unsplit, and stay
-pub record Leaves (T : Table) (q : Marks) (s left : Text) : Type 0 where
+pub record WhatIsLeft (T : Table) (q : Marks) (s left : Text) : Type 0 where
   pub fields : pieces (q .field) left ≡ pieces (q .field) s
   pub repetitions :
       (f : ℕ) → hasField T (name s) f ≡ true → pieces (q .repetition) (field q left f) ≡ pieces (q .repetition) (field q s f)
@@ -58,7 +59,7 @@ pub record Striking (T : Table) (m : Text) : Type 0 where
   pub segments-left : map name (segments (strike T m)) ≡ map name (listedSegments T m)
   -- each of them keeps the separators around what is struck
   pub separators :
-      (n : Text) (o : ℕ) → isListed T n ≡ true → Leaves T (marksOf m) (occurrence m n o) (occurrence (strike T m) n o)
+      (n : Text) (o : ℕ) → isListed T n ≡ true → WhatIsLeft T (marksOf m) (occurrence m n o) (occurrence (strike T m) n o)
   -- NO LISTED PLACE is struck
   pub listed : (p : Place) → isListedPlace T m p ≡ true → textAt (strike T m) p ≡ textAt m p
   -- EVERY UNLISTED ONE is, beyond the first nine bytes

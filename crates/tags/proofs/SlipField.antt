@@ -1,4 +1,4 @@
--- Laws of a field as it stands in a slip, and of the count behind the fields.
+-- Laws of a field as it stands in a slip, and of the count after the fields.
 use mathlib.Core.Path.{_≡_, sym, ap, subst, _∙_}
 use Prim.Native.Nat.{ℕ, _+_, _*_, _-_, _≤_}
 use native.Mathlib.Nat.{add-zero}
@@ -91,7 +91,7 @@ module _ (s : Text) (at k : ℕ) where
             let takes = taken-as (fieldOf k) (drop at s) n tagged (size-at s at n number) in
             (printed ∙ not-false b w, (omega (arith, takes), omega (arith, number-small k n most limit fits)))
 
--- the count and the zeros behind it
+-- the count and the zeros after it
 pub ends-as : (s : Text) (at n count : ℕ) (b : Bool) → n ≡ getD s (at + 1) 0 * 256 + getD s (at + 2) 0
     → count ≡ getD s (at + 3) 0 * 256 + getD s (at + 4) 0 → b ≡ every isZero (within (at + countSize) (length s) s)
     → eqb (getD s at 0) countTag && eqb n 2 && leb count greatestCount && b ≡ isSlipFrom [] (drop at s)

@@ -1,3 +1,4 @@
+-- An entry's promise is made of this.
 -- The fields of a slip: five of text, then the count, then zeros.
 use Prim.Native.Nat.{ℕ, _+_, _*_}
 use mathlib.Core.Bool.{Bool, _&&_}
@@ -27,17 +28,14 @@ longestText = 199
 abbrev pub greatestCount : ℕ
 greatestCount = 509
 
--- bytes of a tag and a length, which stand before every value; of the count with them; of the longest field
+-- bytes of a tag and a length, which stand before every value; of the count with them
 abbrev pub headSize : ℕ
 headSize = 3
 
 abbrev pub countSize : ℕ
 countSize = headSize + 2
 
-abbrev pub longestField : ℕ
-longestField = headSize + longestText
-
--- what stands behind its tag at the head of a text: a two-byte length, high byte first, then the value
+-- what stands after its tag at the head of a text: a two-byte length, high byte first, then the value
 abbrev pub size : Text → ℕ
 size t = getD t 1 0 * 256 + getD t 2 0
 

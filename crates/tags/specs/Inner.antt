@@ -1,3 +1,4 @@
+-- Inner: no entry's promise is made of this.
 -- What reading a field promises.
 use Prim.Native.Nat.{ℕ, _+_, _≤_}
 use mathlib.Core.Path.{_≡_}
@@ -6,7 +7,11 @@ use lib.ListN.{drop}
 use Rattle.text.specs.Bytes.{Text}
 use Rattle.tags.specs.declared.Field.{Field}
 use Rattle.tags.specs.declared.Field.the-variants as field
-use Rattle.tags.specs.Fields.{fieldOf, isThere, longestField, taken}
+use Rattle.tags.specs.Fields.{headSize, longestText, fieldOf, isThere, taken}
+
+-- bytes of the longest field
+abbrev pub longestField : ℕ
+longestField = headSize + longestText
 
 -- a field as it stands at a place of a slip: bad, or it ends there
 abbrev pub ReadsTag : Text → ℕ → ℕ → Field → Type 0

@@ -4,8 +4,8 @@ ghost use mathlib.Core.List.{[]};
 ghost use Prim.Native.Nat.{_+_, _*_, _≤_};
 ghost use lib.ListN.{length, drop};
 ghost use Rattle.text.specs.Bytes.{every, printable};
-ghost use Rattle.tags.specs.Fields.{countSize, isSlipFrom, isZero, longestField, mostOf};
-ghost use Rattle.tags.specs.Inner.{ReadsTag};
+ghost use Rattle.tags.specs.Fields.{countSize, isSlipFrom, isZero, mostOf};
+ghost use Rattle.tags.specs.Inner.{longestField, ReadsTag};
 use text::is_printable;
 
 // The tags that are not like the others: the control number's value is shorter, the placer's number may be left out, the count is no text.

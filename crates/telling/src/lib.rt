@@ -46,7 +46,7 @@ pub fn tell_verdict(out: &mut [u8], v: Verdict) -> usize {
     line::desk_line(v, out)
 }
 
-// Start and end of a part behind the word that tells it, and the part's bytes.
+// Start and end of a part after the word that tells it, and the part's bytes.
 fn put_part(out: &mut [u8], at: usize, start: usize, end: usize, part: &[u8]) -> usize {
     let a = put_number(out, at, start as u64);
     let b = put_number(out, a, end as u64);

@@ -14,7 +14,7 @@ pub passes-rest : (b r : Bool) → pick b false r ≡ true → (b ≡ false) × 
 passes-rest true r e = not-true e
 passes-rest false r e = (refl, e)
 
--- tests one behind the other pass together
+-- tests one after the other pass together
 pub passes-both : (ts us : List Test) → passes (ts ++ us) ≡ true → (passes ts ≡ true) × (passes us ≡ true)
 unfolding passes
 passes-both [] us e = (refl, e)

@@ -26,7 +26,7 @@ module _ {before : Text} {at : ℕ} {a mid : Text} {k : ℕ} (p : Puts before at
   puts-head =
       ap (take k) (p .holds) ∙ take-at (take at before ++ a) (drop (at + length a) before) k head
 
-  -- what stands behind the end is what stood there
+  -- what stands after the end is what stood there
   pub puts-rest : (n : ℕ) → drop (k + n) mid ≡ drop (at + length a + n) before
   puts-rest n =
       ap (drop (k + n)) (p .holds)
@@ -45,7 +45,7 @@ puts-one before at x h =
       ends = refl;
     }
 
--- one text behind another is the two written as one
+-- one text after another is the two written as one
 pub puts-both : {before : Text} {at : ℕ} {a mid : Text} {k : ℕ} {b after : Text} {r : ℕ}
     → Puts before at a mid k → Puts mid k b after r → Puts before at (a ++ b) after r
 puts-both {before} {at} {a} {mid} {k} {b} {after} {r} p q =

@@ -1,3 +1,4 @@
+-- An entry's promise is made of this.
 -- The numbers a caller gets back. An answer is the first refusal that applies, or what was asked for.
 use Prim.Native.Nat.{ℕ}
 use mathlib.Core.Bool.{Bool, true, false}

@@ -1,3 +1,4 @@
+-- An entry's promise is made of this.
 -- Bytes and texts, and the tests on them that every other definition is made of.
 use Prim.Native.Nat.{ℕ, _-_}
 use Prim.Native.Char.{code}

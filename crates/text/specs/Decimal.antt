@@ -1,3 +1,4 @@
+-- An entry's promise is made of this.
 -- A number in digits.
 use Prim.Native.Nat.{ℕ, zero, suc, _+_, _/_, _%_}
 use mathlib.Core.List.{[], _∷_}

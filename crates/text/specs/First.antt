@@ -1,3 +1,4 @@
+-- A demand is said with this.
 -- The first of a list that a test holds of, said as such.
 use mathlib.Core.Path.{_≡_}
 use mathlib.Core.Bool.{Bool, true, not}

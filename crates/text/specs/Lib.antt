@@ -1,8 +1,11 @@
+-- An entry's promise is made of these.
 pub mod Bytes
 pub mod Answer
-pub mod First
 pub mod Decimal
-pub mod Puts
 pub mod Part
 pub mod Marks
 pub mod Limits
+-- A demand is said with this.
+pub mod First
+-- Inner: no entry's promise is made of this.
+pub mod Puts

@@ -1,3 +1,4 @@
+-- An entry's promise is made of this.
 -- Limits of lengths, and ranges of numbers.
 use Prim.Native.Nat.{ℕ}
 use mathlib.Core.Bool.{Bool, _&&_}

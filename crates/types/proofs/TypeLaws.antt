@@ -10,7 +10,8 @@ use lib.ListN.{length, getD, take, drop, drop-of-length-le, length-drop}
 use lib.Seq.{drop-cons}
 use lib.Dec.{eqb, leb, ltb, eqb·zero-suc, eqb·suc-suc}
 use Rattle.text.specs.Bytes.{Text, pick, digit, empty, every}
-use Rattle.types.specs.Types.{digits, rest, begins, two, twos, rangesOf}
+use Rattle.types.specs.Types.{digits, rest, begins, two, twos}
+use Rattle.types.specs.Inner.{rangesOf}
 use Rattle.text.specs.Limits.{Range, _to_, isWithin}
 use Rattle.text.proofs.Tests.{both}
 use Rattle.text.proofs.Lists.{every-drop, part-rest, drop-take}
@@ -96,7 +97,7 @@ pub begins-at : (p : ℕ → Bool) (t : Text) → (length t ≡ 0 → ⊥) → b
 begins-at p [] h = absurd (h refl)
 begins-at p (b ∷ t) h = refl
 
--- parts of a text, as code takes them: behind the digits, and within the digits
+-- parts of a text, as code takes them: after the digits, and within the digits
 pub part-after-digits : (t : Text) (n : ℕ) → n ≡ length (digits t) → take (length t - n) (drop n t) ≡ rest t
 part-after-digits t n e = part-rest n t ∙ ap (λ k. drop k t) e ∙ digits-drop t
 

@@ -1,3 +1,4 @@
+-- An entry's promise is made of this.
 -- What a text of a simple type looks like, and what a stamp and a reply number are.
 use Prim.Native.Nat.{ℕ, _+_, _*_, _-_}
 use mathlib.Core.Bool.{Bool, true, false, _&&_, _||_}
@@ -30,7 +31,7 @@ point b = eqb b (byte ".")
 abbrev pub isSI : Text → Bool
 isSI t = every digit t
 
--- what stands behind the point that a text begins with: no bytes where it begins with none
+-- what stands after the point that a text begins with: no bytes where it begins with none
 abbrev pub behindPoint : Text → Text
 behindPoint t = pick (begins point t) (drop 1 t) []
 
@@ -70,7 +71,7 @@ zone = 0 to 14 ∷ 0 to 59 ∷ []
 
 -- nothing, or a sign and HHMM
 abbrev pub isZone : Text → Bool
-isZone t = empty t || begins sign t && eqb (length t) 5 && every digit (drop 1 t) && twos zone (drop 1 t)
+isZone t = empty t || (begins sign t && eqb (length t) 5 && every digit (drop 1 t) && twos zone (drop 1 t))
 
 -- a point, one to four digits, and the zone
 abbrev pub isFraction : Text → Bool
@@ -81,14 +82,14 @@ abbrev pub isDTM : Text → Bool
 isDTM t =
     leb 4 (length (digits t))
     && twos calendar (drop 4 (digits t))
-    && (isZone (rest t) || eqb (length (digits t)) 14 && isFraction (rest t))
+    && (isZone (rest t) || (eqb (length (digits t)) 14 && isFraction (rest t)))
 
 -- TM: HH[MM[SS[.S[S[S[S]]]]]] and the zone
 abbrev pub isTM : Text → Bool
 isTM t =
     leb 2 (length (digits t))
     && twos clock (digits t)
-    && (isZone (rest t) || eqb (length (digits t)) 6 && isFraction (rest t))
+    && (isZone (rest t) || (eqb (length (digits t)) 6 && isFraction (rest t)))
 
 -- how many digits a stamp has, and the greatest length of a reply number
 abbrev pub stampSize : ℕ
@@ -104,9 +105,3 @@ isStamp t = eqb (length t) stampSize && every digit t && isDTM t
 -- a reply number: 1 to 20 capitals or digits
 abbrev pub isReplyNumber : Text → Bool
 isReplyNumber t = isWithin (1 to mostReplyNumber) (length t) && every capitalOrDigit t
-
--- ranges from a list of low, high, low, high
-unfoldable pub rangesOf : List ℕ → List Range
-rangesOf [] = []
-rangesOf (a ∷ []) = []
-rangesOf (a ∷ b ∷ l) = a to b ∷ rangesOf l

@@ -4,7 +4,8 @@ ghost use mathlib.Core.Path.{_≡_};
 ghost use Prim.Native.Nat.{_≤_};
 ghost use lib.ListN.{length};
 ghost use Rattle.text.specs.Bytes.{digit, every};
-ghost use Rattle.types.specs.Types.{behindPoint, digits, isDTM, isDecimals, isFraction, isNM, isReplyNumber, isSI, isStamp, isTM, isUnsigned, isZone, rangesOf, sign, twos};
+ghost use Rattle.types.specs.Types.{behindPoint, digits, isDTM, isDecimals, isFraction, isNM, isReplyNumber, isSI, isStamp, isTM, isUnsigned, isZone, sign, twos};
+ghost use Rattle.types.specs.Inner.{rangesOf};
 use text::is_capital_or_digit;
 use text::is_digit;
 
@@ -44,7 +45,7 @@ pub fn is_si(t: &[u8]) -> bool
     digits_len(t) == t.len()
 }
 
-// What stands behind the point that the text begins with: no bytes where it begins with none.
+// What stands after the point that the text begins with: no bytes where it begins with none.
 fn behind_point<'a>(t: &'a [u8]) -> &'a [u8]
     ensures { λ r. ⌜ now r ≡ behindPoint (now (t .entry)) ⌝ }
 {

@@ -13,27 +13,24 @@ use Rattle.codes.specs.declared.rows.Rows.{Rows}
 use Rattle.profile.specs.Numbers.{tableOf, fieldColumn, repetitionsColumn, firstField}
 use Rattle.codes.specs.Inner.{Lists, leavesAt, ruleAt}
 use Rattle.fields.specs.declared.field.ReadField.{ReadField}
-use Rattle.checks.specs.Place.{repetitions}
 use Rattle.checks.specs.View.{Field, namedIn, fieldSeen}
 use Rattle.checks.specs.Fault.{startsFilled, firstFilled}
 use Rattle.listing.specs.Listing.{HasNumber}
-use Rattle.fields.specs.Judged.{ReadsField, repetitionsIn, filledIn}
+use Rattle.checks.specs.Repetition.{repetitionsIn}
+use Rattle.fields.specs.Judged.{ReadsField, filledIn}
+use Rattle.checks.proofs.Filled.{split-count, split-filled}
 use Rattle.located.specs.Listed.{leavesOfField}
 use Rattle.located.proofs.FieldText.{field-split}
 
 -- what is seen of a field that is split
 module _ (T : Table) (q : Marks) (s : Text) (u : Rule) (x : Text) (is : x ≡ field q s (u .field)) (cut : unsplit s (u .field) ≡ false) where
-  repetitions-in : repetitions q s (u .field) ≡ repetitionsIn q x
-  unfolding repetitions
-  repetitions-in = rw (cut, is)
-
   pub seen-surplus : fieldSeen T q s u .surplus ≡ ltb (u .repetitions) (length (repetitionsIn q x))
   unfolding fieldSeen
-  seen-surplus = rw repetitions-in
+  seen-surplus = rw (split-count q s (u .field) cut, is)
 
   pub seen-filled : fieldSeen T q s u .filled ≡ filledIn q (leavesOf T (namedIn q s) u) x
   unfolding fieldSeen
-  seen-filled = rw (cut, repetitions-in)
+  seen-filled = rw is (split-filled q s (u .field) cut (leavesOf T (namedIn q s) u))
 
   pub seen-first : firstFilled (fieldSeen T q s u) ≡ startsFilled (filledIn q (leavesOf T (namedIn q s) u) x)
   seen-first = rw seen-filled

@@ -6,7 +6,7 @@ use borrow.Fn.PlainCycle.{Measures, is, falls, and}
 use Rattle.walk.proofs.group.Kinds as reader
 use Rattle.walk.proofs.behind_group.Kinds as chooser
 
--- of a reader, all of whose parameters are of the same kinds: those behind its segment
+-- of a reader, all of whose parameters are of the same kinds: those after its segment
 abbrev pub left : Measures 2 reader.ps ℕ
 left κs a = length (a .0 .now) - a .1 .1 .1 .0
 

@@ -47,7 +47,7 @@ seven P a b c d e f g (suc (suc (suc (suc (suc (suc zero)))))) l h = f
 seven P a b c d e f g (suc (suc (suc (suc (suc (suc (suc zero))))))) l h = g
 seven P a b c d e f g (suc (suc (suc (suc (suc (suc (suc (suc k)))))))) l h = absurd (omega arith)
 
--- behind which the message may end
+-- after which the message may end
 pub last-among : (k : ℕ) → OBR ≤ k → k ≤ NTE → mayBeLast k ≡ true
 last-among k l h =
     seven (λ j. OBR ≤ j → mayBeLast j ≡ true) (λ a. absurd (omega arith)) (λ a. absurd (omega arith)) (λ a. absurd (omega arith)) (λ a. absurd (omega arith))
@@ -173,7 +173,7 @@ module _ (table : List ℕ) (m : Text) (start end k : ℕ) (h : Here m start end
   abbrev halt : ℕ → Halt
   halt a = record { why = a; start = start; end = end }
 
-  -- the checks of its fields, and what is behind it
+  -- the checks of its fields, and what is after it
   abbrev own : ℕ → List Check
   own o = flatMap (fieldChecks (marksOf m) x o (segmentSeen T (marksOf m) (within start end m) .fields)) (segmentSeen T (marksOf m) (within start end m) .fields)
 
@@ -212,7 +212,7 @@ module _ (table : List ℕ) (m : Text) (start end k : ℕ) (h : Here m start end
                 (end-told (mayBeLast k) (firstBroken (own (suc (count x ns)))) (place x (suc (count x ns)) 0 0 0 0));
           }
 
-      -- another one is behind it
+      -- another one is after it
       pub walks-behind : (start' end' j : ℕ) → Next T m (end + 1) start' end' j → Behind T m start end start' end' j
       walks-behind start' end' j next =
           record {
@@ -222,7 +222,7 @@ module _ (table : List ℕ) (m : Text) (start end k : ℕ) (h : Here m start end
             same = λ ns last l. walk-behind ns last l ∙ rw (next .first);
           }
 
--- ---- from it to the one behind it
+-- ---- from it to the one after it
 
 module _ {m : Text} {start end k : ℕ} where
   -- it is out of place
@@ -242,7 +242,7 @@ module _ {m : Text} {start end k : ℕ} where
   pub asks : {table : List ℕ} (i : ℕ) → k ≡ i → Sound table × Here m start end k → Sound table × Here m start end i
   asks i e pre = (pre .0, subst (λ (x : ℕ). Here m start end x) e (pre .1))
 
-  -- and that behind a segment fewer bytes are left than from it on
+  -- and that after a segment fewer bytes are left than from it on
   pub to-reader : {table : List ℕ} {left : ℕ} (i : ℕ) → k ≡ i → (length m - start ≡ left) × (Sound table × Here m start end k)
       → (length m - end < left) × (Sound table × Here m start end i)
   to-reader i e pre = (omega (arith, named-long m start end k (pre .1 .1), pre .1 .1 .high), asks i e (pre .1))
@@ -252,7 +252,7 @@ module _ {table : List ℕ} {m : Text} {start end k start' end' j : ℕ} (pre : 
   next : Behind (tableOf table) m start end start' end' j
   next = onward-as (tableOf table) m start end r (onward.Segment start' end' j) e x
 
-  -- from the next one on fewer bytes are left than behind this one
+  -- from the next one on fewer bytes are left than after this one
   pub to-next : {left : ℕ} → length m - end ≡ left → (length m - start' < left) × (Sound table × Here m start' end' j)
   to-next l = (omega (arith, next .later, pre .1 .high), (pre .0, next .here))
 

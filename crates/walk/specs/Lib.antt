@@ -1,3 +1,4 @@
+-- Inner: no entry's promise is made of these.
 pub mod Named
 pub mod Judged
 pub mod Onward

@@ -1,4 +1,5 @@
--- 01's segments by the numbers of their names (`segmentNames`, profile/specs/Numbers.antt), and which may come behind which.
+-- Inner: no entry's promise is made of this.
+-- 01's segments by the numbers of their names (`segmentNames`, profile/specs/Numbers.antt), and which may come after which.
 use Prim.Native.Nat.{ℕ}
 use mathlib.Core.Bool.{Bool, _||_}
 use lib.Dec.{eqb}
@@ -24,14 +25,14 @@ OBX = 6
 abbrev pub NTE : ℕ
 NTE = 7
 
--- behind a PID or an NK1
+-- after a PID or an NK1
 abbrev pub behindPatient : ℕ → Bool
 behindPatient j = eqb j NK1 || eqb j ORC || eqb j OBR
 
--- behind an OBR, an OBX or an NTE
+-- after an OBR, an OBX or an NTE
 abbrev pub behindGroup : ℕ → Bool
 behindGroup j = eqb j ORC || eqb j OBR || eqb j OBX || eqb j NTE
 
--- the message may end behind it
+-- the message may end after it
 abbrev pub mayBeLast : ℕ → Bool
 mayBeLast k = eqb k OBR || eqb k OBX || eqb k NTE

@@ -1,3 +1,4 @@
+-- Inner: no entry's promise is made of this.
 -- What only the readers' helper promises: what reading a segment leads to.
 use Prim.Native.Nat.{ℕ, _<_}
 use mathlib.Core.Path.{_≡_}
@@ -11,7 +12,7 @@ use Rattle.walk.specs.declared.Onward.the-variants as onward
 use Rattle.listing.specs.Listing.{Here}
 use Rattle.walk.specs.Judged.{Counts, walkFrom, Walks}
 
--- THE SEGMENT BEHIND the one that stands from start to end: the verdict from there on is the verdict
+-- THE SEGMENT AFTER the one that stands from start to end: the verdict from there on is the verdict
 pub record Behind (T : Table) (m : Text) (start end start' end' k : ℕ) : Type 0 where
   pub later : end < start'
   pub here : Here m start' end' k

@@ -33,7 +33,7 @@ pub struct Halt {
     pub end: usize,
 }
 
-// Why reading stops where the message ends behind a segment of that number.
+// Why reading stops where the message ends after a segment of that number.
 fn end_behind(number: u16) -> u64
     ensures { λ r. ⌜ r ≡ pick (mayBeLast number) nothingBroken mayNotEnd ⌝ }
 {
@@ -126,7 +126,7 @@ fn note(m: &[u8], table: &[u16], start: usize, end: usize) -> Halt
     }
 }
 
-// The segment behind an OBR, an OBX or an NTE: the same may follow each of them.
+// The segment after an OBR, an OBX or an NTE: the same may follow each of them.
 fn behind_group(m: &[u8], table: &[u16], start: usize, end: usize, number: u16) -> Halt
     requires { ⌜ Sound (now table) × Here (now m) start end number ⌝ }
     ensures { λ r. ⌜ WalksIf (behindGroup number) (tableOf (now (table .entry))) (now (m .entry)) start end r ⌝ }
@@ -166,7 +166,7 @@ fn patient(m: &[u8], table: &[u16], start: usize, end: usize) -> Halt
     }
 }
 
-// The segment behind the PID or an NK1.
+// The segment after the PID or an NK1.
 fn behind_patient(m: &[u8], table: &[u16], start: usize, end: usize, number: u16) -> Halt
     requires { ⌜ Sound (now table) × Here (now m) start end number ⌝ }
     ensures { λ r. ⌜ WalksIf (behindPatient number) (tableOf (now (table .entry))) (now (m .entry)) start end r ⌝ }

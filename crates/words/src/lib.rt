@@ -1,4 +1,4 @@
-// The words of a line, and the numbers among them. A word begins at `at`; where the line has no more words, that is behind its end.
+// The words of a line, and the numbers among them. A word begins at `at`; where the line has no more words, that is after its end.
 mod ends;
 mod numbers;
 

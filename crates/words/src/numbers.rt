@@ -15,7 +15,7 @@ fn bad() -> Number {
     }
 }
 
-// The number with one more digit, bad where it does not fit or the byte is no digit.
+// The number with one more digit: bad where the byte is no digit, and the largest where it does not fit.
 fn with_digit(n: u64, b: u8) -> Number {
     if b < b'0' {
         return bad();
@@ -25,7 +25,10 @@ fn with_digit(n: u64, b: u8) -> Number {
     }
     let d = (b - b'0') as u64;
     if (MOST - d) / 10 < n {
-        return bad();
+        return Number {
+            is_good: true,
+            value: MOST,
+        };
     }
     Number {
         is_good: true,
@@ -33,12 +36,9 @@ fn with_digit(n: u64, b: u8) -> Number {
     }
 }
 
-// The number that 1 to 20 digits write.
+// The number that digits write, any number of them.
 pub fn read_number(t: &[u8]) -> Number {
     if t.len() == 0 {
-        return bad();
-    }
-    if 20 < t.len() {
         return bad();
     }
     let mut value = 0;

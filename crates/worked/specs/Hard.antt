@@ -1,3 +1,4 @@
+-- No entry's promise is made of this: it tries the definitions.
 -- Cases that are easy to get wrong: what the definitions give, and what 01 means.
 use Prim.Native.Nat.{ℕ, _^_}
 use Prim.Native.String as string
@@ -6,13 +7,16 @@ use mathlib.Core.List.{List, [], _∷_, _++_}
 use lib.ListN.{take, drop, replicate}
 use Rattle.text.specs.Bytes.{Text, bytes, cr}
 use Rattle.text.specs.Answer.{given, bufferAfter}
+use Rattle.text.specs.Decimal.{decimal}
 use Rattle.text.specs.Marks.{usual}
 use Rattle.escape.specs.Escape.{resolve}
 use Rattle.types.specs.Types.{isSI, isNM, isDTM, isTM, isStamp, isReplyNumber}
 use Rattle.profile.specs.Profile.{profile01}
 use Rattle.reader.specs.Place.{place}
 use Rattle.reader.specs.LookUp.{lookUp}
+use Rattle.reader.specs.Fault.{condition}
 use Rattle.line.specs.Line.{lookLine}
+use Rattle.reply.specs.Error.{placeText}
 use Rattle.reply.specs.Reply.{reply}
 use Rattle.slip.specs.Book.{file, bookAfter}
 use Rattle.book.specs.Read.{isSlip, readSlip}
@@ -78,7 +82,7 @@ looks =
     ∷ (look "MSH" 1 1 2 1 1 says bytes "empty")
     ∷ (look "MSH" 1 2 1 2 1 says bytes "empty")
     ∷ (look "MSH" 1 2 1 1 2 says bytes "empty")
-    -- MSH-3 behind the ninth byte, MSH-9 and not MSH-10, MSH-8 of no bytes
+    -- MSH-3 after the ninth byte, MSH-9 and not MSH-10, MSH-8 of no bytes
     ∷ (look "MSH" 1 3 1 1 1 says bytes "text 9 15")
     ∷ (look "MSH" 1 9 1 2 1 says bytes "text 50 53")
     ∷ (look "MSH" 1 8 1 1 1 says bytes "empty")
@@ -228,6 +232,11 @@ replies =
     ∷ "MSA|AR|C7"
     ∷ "ERR||MSH^1^12^1^1^1|203^Unsupported version id^HL70357|E"
     ∷ []))
+    -- of a place only trailing zeros are left off
+    ∷ (placeText (place (bytes "OBX") 1 0 5 0 0) says bytes "OBX^1^0^5")
+    -- a number that is no reason has no condition
+    ∷ (decimal (condition 0) says bytes "0")
+    ∷ (decimal (condition 13) says bytes "0")
     -- the order of refusals
     ∷ (outcome (reply profile01 [] [] [] 0) says bytes "refused 1")
     ∷ (outcome (reply profile01 M (bytes "20241305101501") [] 0) says bytes "refused 11")
@@ -268,7 +277,7 @@ slips =
     ∷ (outcome (file profile01 M 1 1 (replicate 2047 0)) says bytes "refused 17")
     ∷ (outcome (file profile01 M 1 (2 ^ 54) (replicate 2048 0)) says bytes "refused 17")
     ∷ (yesNo (isSlip (replicate 1024 0)) says bytes "no")
-    -- a byte behind the count
+    -- a byte after the count
     ∷ (yesNo (isSlip (take 1023 longestSlip ++ (1 ∷ []))) says bytes "no")
     ∷ []
 

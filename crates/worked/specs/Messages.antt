@@ -1,3 +1,4 @@
+-- A demand is said with this.
 -- The worked message M, and what it is changed to.
 use Prim.Native.Nat.{ℕ}
 use Prim.Native.String as string
@@ -33,7 +34,7 @@ obx = "OBX|1|NM|45222-7^C4-DC^LN||3.16|umol/L|||||F"
 abbrev pub M : Text
 M = message (msh ∷ pid ∷ obr ∷ obx ∷ [])
 
--- M with another header, PID, OBR or OBX; M with a line behind PID
+-- M with another header, PID, OBR or OBX; M with a line after PID
 abbrev pub withMSH : string.String → Text
 withMSH s = message (s ∷ pid ∷ obr ∷ obx ∷ [])
 
@@ -46,7 +47,7 @@ withOBX s = message (msh ∷ pid ∷ obr ∷ s ∷ [])
 abbrev pub withLine : string.String → Text
 withLine s = message (msh ∷ pid ∷ s ∷ obr ∷ obx ∷ [])
 
--- M with a second group: two observations in the first, an unlisted segment behind them, and one in the second
+-- M with a second group: two observations in the first, an unlisted segment after them, and one in the second
 abbrev pub twoOrders : Text
 twoOrders =
     message

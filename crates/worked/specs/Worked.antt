@@ -1,3 +1,4 @@
+-- A demand is said with this.
 -- P1 to P12 as one list: what the definitions give, and what 01 says.
 use Prim.Native.Nat.{_-_}
 use mathlib.Core.Path.{_≡_}

@@ -36,7 +36,7 @@ pub fn resolve(l: &[u8], at: usize, out: &mut [u8]) -> usize {
     ask_resolve(&escaped[0..n], &mut buffer[0..k], out)
 }
 
-// The rest of a `reply`, behind the message and the stamp.
+// The rest of a `reply`, after the message and the stamp.
 fn reply_with(l: &[u8], at: usize, m: &[u8], stamp: &[u8], out: &mut [u8]) -> usize {
     let mut number = memory();
     let mut buffer = memory();

@@ -8,12 +8,12 @@ use Rattle.escape.proofs.is_escape.Tie as tie
 returns : tie.Need-returns
 returns c =
     let a = c .before .before .args in
-    sym (escape-short (a .q .escape) (a .t .now) (a .i) (c .if1 .taken))
+    sym (escape-short (a .q) (a .t .now) (a .i) (c .if1 .taken))
 
 returns-2 : tie.Need-returns-2
 returns-2 c =
     let a = c .before .before .before .before .before .before .args in
-    rw (c .before .before .is-letter .ensures) (sym (escape-at (a .q .escape) (a .t .now) (a .i) (search needs)))
+    rw (c .before .before .is-letter .ensures) (sym (escape-at (a .q) (a .t .now) (a .i) (search needs) (search needs)))
 
 pub is-escape-spec : {M : Type 1} → statement M
 is-escape-spec =
@@ -21,6 +21,7 @@ is-escape-spec =
     (tie.spec
     (λ c. search needs)
     returns
+    (λ c. search needs)
     (λ c. search needs)
     (λ c κs. search needs)
     (λ c. search needs)

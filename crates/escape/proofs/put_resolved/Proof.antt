@@ -2,9 +2,7 @@
 use Prim.Native.Nat.{_+_, _-_}
 use native.Mathlib.Omega.{arith}
 use borrow.Author.Needs.{needs}
-use borrow.Author.Tests.{not-false}
 use lib.ListN.{length, getD}
-use Rattle.escape.specs.Escape.{outside, endsOutside}
 use Rattle.escape.specs.Step.{meant}
 use Rattle.escape.proofs.Escapes.{Goes, goes-byte, goes-good, Filled, filled-first, filled-room, filled-more, filled-all}
 use Rattle.escape.proofs.put_resolved.Statement.{statement}
@@ -23,7 +21,7 @@ loop-holds : tie.Need-loop-holds Inv-loop μ-loop
 loop-holds c =
     let s = c .before .before in
     let a = s .args in
-    filled-first (a .q) (a .t .now) (a .out .now) (a .at) (not-false (endsOutside (a .q) outside (a .t .now)) (s .pre .0)) (s .pre .1)
+    filled-first (a .q) (a .t .now) (a .out .now) (a .at) (s .pre .0) (s .pre .1)
 
 -- past an escape
 goes : (c : lts.Then1 (meant-reads.Asked, meant-reads.Learnt) reads.Pre reads.Post Inv-loop μ-loop)

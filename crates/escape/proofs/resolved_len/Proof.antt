@@ -2,9 +2,7 @@
 use Prim.Native.Nat.{_+_, _-_}
 use native.Mathlib.Omega.{arith}
 use borrow.Author.Needs.{needs}
-use borrow.Author.Tests.{not-false}
 use lib.ListN.{length, getD}
-use Rattle.escape.specs.Escape.{outside, endsOutside}
 use Rattle.escape.specs.Step.{meant}
 use Rattle.escape.proofs.Escapes.{Goes, goes-byte, goes-good, Counted, counted-none, counted-more, counted-all}
 use Rattle.escape.proofs.resolved_len.Statement.{statement}
@@ -20,8 +18,7 @@ abbrev μ-loop : tie.MeasureT-loop
 
 loop-holds : tie.Need-loop-holds Inv-loop μ-loop
 loop-holds c =
-    let a = c .args in
-    counted-none (a .q) (a .t .now) (not-false (endsOutside (a .q) outside (a .t .now)) (c .pre))
+    counted-none (c .args .q) (c .args .t .now) (c .pre)
 
 -- past an escape
 goes : (c : lts.Then1 reads.Pre reads.Post Inv-loop μ-loop)

@@ -1,14 +1,13 @@
--- `some_bad`: whether the rest ends outside an escape decides.
+-- `some_bad`: whether the rest has a bad escape decides.
 use Prim.Native.Nat.{_≤_, _+_, _-_}
-use mathlib.Core.Path.{_≡_, sym, ap, _∙_}
-use mathlib.Core.Bool.{not}
+use mathlib.Core.Path.{_≡_, sym, _∙_}
 use native.Mathlib.Omega.{arith}
 use borrow.Author.Needs.{needs}
 use borrow.Author.Tests.{not-true, not-false}
 use lib.ListN.{length, drop, getD}
-use Rattle.escape.specs.Escape.{outside, endsOutside}
+use Rattle.escape.specs.Escape.{badEscape}
 use Rattle.escape.specs.Step.{meant}
-use Rattle.escape.proofs.Escapes.{Goes, goes-byte, goes-escape, escape-bad, ends-end}
+use Rattle.escape.proofs.Escapes.{Goes, goes-byte, goes-escape, escape-bad, bad-end}
 use Rattle.escape.proofs.some_bad.Statement.{statement}
 use Rattle.escape.proofs.some_bad.Tie as tie
 use Rattle.escape.proofs.some_bad.Reads as reads
@@ -16,7 +15,7 @@ use Rattle.escape.proofs.some_bad.Lts as lts
 use Rattle.escape.proofs.is_escape.Reads as is-escape-reads
 
 abbrev Inv-loop : tie.InvT-loop
-Inv-loop q t i₀ i = (i ≤ length t) × (endsOutside q outside (drop i t) ≡ endsOutside q outside t)
+Inv-loop q t i₀ i = (i ≤ length t) × (badEscape q (drop i t) ≡ badEscape q t)
 
 abbrev μ-loop : tie.MeasureT-loop
 μ-loop q t i₀ i = length t - i
@@ -26,10 +25,9 @@ returns c =
     let at = c .before .before .before .before .before .before in
     let a = at .before .before .args in
     let e = c .before .is-escape in
-    ap not
-    (sym
+    sym
     (escape-bad (a .q) (a .t .now) (at .loop .i) (search needs) (c .before .before .if1 .taken) (sym (e .ensures) ∙ not-true (e .result) (c .if2 .taken)))
-    ∙ at .loop .inv .1)
+    ∙ at .loop .inv .1
 
 -- past an escape
 goes : (c : lts.Else2 (is-escape-reads.Asked, is-escape-reads.Learnt) reads.Pre reads.Post Inv-loop μ-loop)
@@ -40,7 +38,7 @@ goes c =
     let at = c .before .before .before .before .before .before in
     let a = at .before .before .args in
     let e = c .before .is-escape in
-    goes-escape (a .q) (a .t .now) (at .loop .i) (search needs) (c .before .before .if1 .taken) (sym (e .ensures) ∙ not-false (e .result) (c .if2 .left))
+    goes-escape (a .q) (a .t .now) (at .loop .i) (sym (e .ensures) ∙ not-false (e .result) (c .if2 .left))
 
 add-i : tie.Need-add-i Inv-loop μ-loop
 add-i c = let g = goes c in omega arith
@@ -51,20 +49,20 @@ loop-less c = let g = goes c in omega arith
 loop-again : tie.Need-loop-again Inv-loop μ-loop
 loop-again c =
     let g = goes c in
-    (g .within, sym (g .ends) ∙ c .before .before .before .before .before .before .loop .inv .1)
+    (g .within, sym (g .bad) ∙ c .before .before .before .before .before .before .loop .inv .1)
 
 loop-again-2 : tie.Need-loop-again-2 Inv-loop μ-loop
 loop-again-2 c =
     let at = c .before .before .before .before in
     let a = at .before .before .args in
     let g = goes-byte (a .q) (a .t .now) (at .loop .i) (search needs) (c .if1 .left) in
-    (g .within, sym (g .ends) ∙ at .loop .inv .1)
+    (g .within, sym (g .bad) ∙ at .loop .inv .1)
 
 returns-2 : tie.Need-returns-2 Inv-loop μ-loop
 returns-2 c =
     let at = c .before in
     let a = at .before .before .args in
-    ap not (sym (ends-end (a .q) (a .t .now) (at .loop .i) (c .loop-test .left)) ∙ at .loop .inv .1)
+    sym (bad-end (a .q) (a .t .now) (at .loop .i) (c .loop-test .left)) ∙ at .loop .inv .1
 
 pub some-bad-spec : {M : Type 1} → statement M
 some-bad-spec =
@@ -72,7 +70,6 @@ some-bad-spec =
     (tie.spec
     Inv-loop
     μ-loop
-    (λ c. search needs)
     (λ c. search needs)
     (λ c. search needs)
     (λ c κs. search needs)

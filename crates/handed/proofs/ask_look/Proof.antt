@@ -1,5 +1,5 @@
 -- `ask_look` by a walk through its code, since what `look_up` hands out is a struct with a reference in it: the struct is taken apart, and its two fields
--- go to `tell_found` behind the lent memory, which is given up to it. Nothing is promised of what is told, so no fact is carried but that the memory stays as
+-- go to `tell_found` after the lent memory, which is given up to it. Nothing is promised of what is told, so no fact is carried but that the memory stays as
 -- long as it was: the walk shows that each function gets what it may ask for.
 use mathlib.Core.Path.{_≡_, refl, ap}
 use Prim.Native.Nat.{ℕ}

@@ -1,5 +1,5 @@
 -- `ask_read` by a walk through its code, as `ask_look`: `read_slip` is called, the struct that it hands out is taken apart, and its two fields go to
--- `tell_value` behind the lent memory, which is given up to it.
+-- `tell_value` after the lent memory, which is given up to it.
 use mathlib.Core.Path.{_≡_, refl, ap}
 use Prim.Native.Nat.{ℕ, _<_, _^_}
 use mathlib.Core.List.{List, [], _∷_}

@@ -1,4 +1,4 @@
--- `put_header`: its texts, one behind another.
+-- `put_header`: its texts, one after another.
 use mathlib.Core.Path.{_≡_, ap}
 use native.Mathlib.Omega.{arith}
 use lib.ListN.{length}

@@ -1,4 +1,4 @@
--- `put_parties`: four HD, one behind another.
+-- `put_parties`: four HD, one after another.
 use native.Mathlib.Omega.{arith}
 use Rattle.text.proofs.Puts.{puts-both}
 use Rattle.heading.proofs.Heading.{Parties, parties-copied}

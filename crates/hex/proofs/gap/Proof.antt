@@ -1,4 +1,4 @@
--- `gap`: a line end behind each sixteenth byte.
+-- `gap`: a line end after each sixteenth byte.
 use Prim.Native.Nat.{_%_}
 use borrow.Author.Tests.{eq-eqb, ne-eqb}
 use Rattle.hex.proofs.gap.Statement.{statement}

@@ -1,4 +1,4 @@
--- `refused_line`: three texts, one behind another.
+-- `refused_line`: three texts, one after another.
 use native.Mathlib.Omega.{arith}
 use Rattle.text.proofs.Puts.{puts-both}
 use Rattle.text.proofs.Digits.{decimal-length, decimal-ends}

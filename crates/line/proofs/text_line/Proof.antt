@@ -1,4 +1,4 @@
--- `text_line`: five texts, one behind another.
+-- `text_line`: five texts, one after another.
 use native.Mathlib.Omega.{arith}
 use Rattle.text.proofs.Puts.{puts-length, puts-both}
 use Rattle.text.proofs.Digits.{decimal-length, decimal-ends}

@@ -3,7 +3,8 @@ use borrow.Author.Needs.{needs}
 use Prim.Native.Nat.{_+_, _≤_}
 use mathlib.Core.Path.{_≡_}
 use lib.ListN.{length, drop}
-use Rattle.parts.specs.Split.{split, start, reach}
+use Rattle.parts.specs.Split.{split}
+use Rattle.parts.specs.Start.{start, reach}
 use Rattle.parts.specs.Split as split
 use Rattle.parts.specs.Span.{span}
 use Rattle.parts.proofs.Sought.{Sought, sought-first, sought-on, sought-here, sought-none}

@@ -5,7 +5,7 @@ use mathlib.Core.Path.{_≡_}
 use mathlib.Core.Bool.{false}
 use native.Mathlib.Omega.{arith}
 use lib.ListN.{drop}
-use Rattle.parts.specs.Split.{reach}
+use Rattle.parts.specs.Start.{reach}
 use Rattle.parts.proofs.Reach.{none-seen}
 use Rattle.parts.proofs.sixteen_have.Statement.{statement}
 use Rattle.parts.proofs.sixteen_have.Tie as tie

@@ -1,15 +1,17 @@
 -- The machine's numbers are 01's profile and keep the table's rule: by computation over the whole table.
 use mathlib.Core.Path.{refl}
-use Rattle.text.specs.Bytes.{every}
+use mathlib.Core.List.{flatMap}
+use Rattle.text.specs.Bytes.{every, same}
 use Rattle.profile.specs.Numbers.{rowsFrom, typesFrom, segmentsFrom, tableOf}
 use Rattle.profile.specs.Order.{rising, alone, ofField, guides}
 use Rattle.profile.specs.Profile.{profile01}
-use Rattle.profile.specs.Rows.{rows}
+use Rattle.profile.specs.Noted.{noted}
+use Rattle.profile.specs.Fields.{rows}
 use Rattle.profile.proofs.profile.Statement.{statement}
 use Rattle.profile.proofs.profile.Tie as tie
 
 returns : tie.Need-returns
-unfolding rowsFrom typesFrom segmentsFrom tableOf profile01 rows rising alone ofField guides every
+unfolding flatMap same rowsFrom typesFrom segmentsFrom tableOf profile01 noted rows rising alone ofField guides every
 returns c = (
   record { rows = refl; types = refl; otherwise = refl; succession = refl; ends = refl },
   record { rows = record { order = refl; proper = refl; lone = refl }; index = refl },

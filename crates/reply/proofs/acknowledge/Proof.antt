@@ -23,7 +23,7 @@ numbered c = c .before .before
 abbrev sought : tie.After-occurrence → tie.Start
 sought c = tested (numbered (c .before) .before)
 
--- what is known behind each test
+-- what is known after each test
 stamp-good : (c : tie.Else1) → isStamp (tested (c .before) .args .stamp .now) ≡ true
 stamp-good c = sym (c .before .is-stamp .ensures) ∙ not-false (c .before .is-stamp .result) (c .if1 .left)
 

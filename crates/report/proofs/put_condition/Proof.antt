@@ -7,7 +7,7 @@ use Rattle.text.specs.Decimal.{digitsBefore}
 use Rattle.text.specs.Puts.{Puts}
 use Rattle.parts.specs.Split.{led, join}
 use Rattle.report.specs.Inner.{conditionWords}
-use Rattle.report.proofs.ErrorLaws.{words, condition-room, condition-put, condition-last}
+use Rattle.report.proofs.ErrorLaws.{words, condition-room, condition-put, condition-other}
 use borrow.Author.Needs.{needs}
 use Rattle.report.proofs.put_condition.Statement.{statement}
 use Rattle.report.proofs.put_condition.Tie as tie
@@ -24,9 +24,9 @@ module _ (c : tie.After-condition) (v : ℕ) (e : c .condition .result ≡ v) wh
       → Puts (start c .args .out .now) (start c .args .at) (conditionWords (start c .args .reason)) after r
   written p = condition-put (start c .args .reason) v (c .condition .ensures) e p
 
--- none of the others: 203
-last : (m : tie.At-match-rest) → m .before .condition .result ≡ 203
-last m = condition-last (start (m .before) .args .reason) (m .before .condition .result) (m .before .condition .ensures) (m .match .rest)
+-- none of the conditions: 0
+other : (m : tie.At-match-rest) → m .before .condition .result ≡ 0
+other m = condition-other (start (m .before) .args .reason) (m .before .condition .result) (m .before .condition .ensures) (m .match .rest)
 
 pub put-condition-spec : {M : Type 1} → statement M
 unfolding join led digitsBefore
@@ -49,7 +49,9 @@ put-condition-spec =
     (λ c. search needs)
     (λ c κs. room (c .before .before .before) 202 (c .before .before .match .keys7))
     (λ c. search needs)
-    (λ c κs. room (c .before .before .before) 203 (last (c .before .before)))
+    (λ c κs. room (c .before .before .before) 203 (c .before .before .match .keys8))
+    (λ c. search needs)
+    (λ c κs. room (c .before .before .before) 0 (other (c .before .before)))
     (λ c. search needs)
     (λ c. written (c .before .before .before .before .before .before) 100 (c .before .before .before .before .before .match .keys1) (c .before .before .put .ensures))
     (λ c. search needs)
@@ -65,4 +67,6 @@ put-condition-spec =
     (λ c. search needs)
     (λ c. written (c .before .before .before .before .before .before) 202 (c .before .before .before .before .before .match .keys7) (c .before .before .put7 .ensures))
     (λ c. search needs)
-    (λ c. written (c .before .before .before .before .before .before) 203 (last (c .before .before .before .before .before)) (c .before .before .put8 .ensures)))
+    (λ c. written (c .before .before .before .before .before .before) 203 (c .before .before .before .before .before .match .keys8) (c .before .before .put8 .ensures))
+    (λ c. search needs)
+    (λ c. written (c .before .before .before .before .before .before) 0 (other (c .before .before .before .before .before)) (c .before .before .put9 .ensures)))

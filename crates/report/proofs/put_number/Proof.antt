@@ -1,9 +1,9 @@
--- `put_number`: nothing, the separator, or the separator and the digits.
+-- `put_number`: nothing, or the separator and the digits.
 use mathlib.Core.Path.{ap}
 use native.Mathlib.Omega.{arith}
 use lib.ListN.{length}
 use Rattle.text.proofs.Puts.{puts-none, puts-both, puts-length}
-use Rattle.report.proofs.ErrorLaws.{numbered-none, numbered-room, numbered-nought, numbered-some}
+use Rattle.report.proofs.ErrorLaws.{numbered-none, numbered-some}
 use borrow.Author.Needs.{needs}
 use Rattle.report.proofs.put_number.Statement.{statement}
 use Rattle.report.proofs.put_number.Tie as tie
@@ -18,31 +18,22 @@ put-requires : tie.Need-put-requires
 put-requires c κs =
     let i = c .before .before in
     let b = i .before .before in
-    omega (arith, numbered-room (b .args .wanted) (b .args .n) (i .if1 .left))
-
-returns-2 : tie.Need-returns-2
-returns-2 c =
-    let p = c .before .before .before in
-    let i = p .before .before .before in
-    let b = i .before .before in
-    rw (numbered-nought (b .args .wanted) (b .args .n) (i .if1 .left) (c .if2 .taken)) (p .put .ensures)
+    omega (arith, ap length (numbered-some (b .args .wanted) (b .args .n) (i .if1 .left)))
 
 put-decimal-requires : tie.Need-put-decimal-requires
 put-decimal-requires c κs =
-    let j = c .before in
-    let p = j .before .before .before in
+    let p = c .before .before .before in
     let i = p .before .before .before in
     let b = i .before .before in
-    omega (arith, ap length (numbered-some (b .args .wanted) (b .args .n) (i .if1 .left) (j .if2 .left)), puts-length (p .put .ensures))
+    omega (arith, ap length (numbered-some (b .args .wanted) (b .args .n) (i .if1 .left)), puts-length (p .put .ensures))
 
-returns-3 : tie.Need-returns-3
-returns-3 c =
+returns-2 : tie.Need-returns-2
+returns-2 c =
     let d = c .before .before in
-    let j = d .before .before in
-    let p = j .before .before .before in
+    let p = d .before .before .before .before in
     let i = p .before .before .before in
     let b = i .before .before in
-    rw (numbered-some (b .args .wanted) (b .args .n) (i .if1 .left) (j .if2 .left)) (puts-both (p .put .ensures) (d .put-decimal .ensures))
+    rw (numbered-some (b .args .wanted) (b .args .n) (i .if1 .left)) (puts-both (p .put .ensures) (d .put-decimal .ensures))
 
 pub put-number-spec : {M : Type 1} → statement M
 put-number-spec =
@@ -51,8 +42,6 @@ put-number-spec =
     returns
     (λ c. search needs)
     put-requires
-    (λ c. search needs)
-    returns-2
     put-decimal-requires
     (λ c. search needs)
-    returns-3)
+    returns-2)

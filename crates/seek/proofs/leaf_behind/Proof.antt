@@ -2,7 +2,7 @@
 use Prim.Native.Nat.{_+_}
 use mathlib.Core.Bool.{false}
 use lib.ListN.{drop}
-use Rattle.parts.specs.Descent.{part, partStart}
+use Rattle.parts.specs.Span.{partText, partStart}
 use Rattle.text.specs.Bytes.{within}
 use Rattle.parts.specs.Span.{stepsFrom}
 use Rattle.seek.proofs.Lying.{behind-short, behind-reached}
@@ -23,7 +23,7 @@ returns-2 c =
     let a = o .args in
     let ss = stepsFrom (a .q) (a .n) 4 in
     let t = drop (a .skip) (within (a .start) (a .end) (a .m .now)) in
-    c .between .ensures (a .start + (a .skip + partStart false ss t)) (part false ss t)
+    c .between .ensures (a .start + (a .skip + partStart ss t)) (partText ss t)
     (behind-reached (a .m .now) (a .start) (a .end) (a .skip) (o .pre .0) (o .pre .1) (a .q) (a .n) (d .descend .result) (d .descend .ensures))
 
 pub leaf-behind-spec : {M : Type 1} → statement M

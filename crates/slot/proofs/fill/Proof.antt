@@ -1,4 +1,4 @@
--- `fill`: text by text, then the count, each behind the one before.
+-- `fill`: text by text, then the count, each after the one before.
 use native.Mathlib.Omega.{arith}
 use Rattle.slot.proofs.FillSlip.{begun-none, begun-room, begun-more, count-room, slip-filled}
 use borrow.Author.Needs.{needs}

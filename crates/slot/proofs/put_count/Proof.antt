@@ -1,4 +1,4 @@
--- `put_count`: five bytes, one behind another.
+-- `put_count`: five bytes, one after another.
 use native.Mathlib.Omega.{arith}
 use lib.ListN.{length-set}
 use Rattle.slot.proofs.FillSlip.{puts-count}

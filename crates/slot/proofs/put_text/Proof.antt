@@ -1,4 +1,4 @@
--- `put_text`: nothing where the text is Empty, else the three bytes and the text behind them.
+-- `put_text`: nothing where the text is Empty, else the three bytes and the text after them.
 use Prim.Native.Nat.{_+_, _≤_}
 use native.Mathlib.Omega.{arith}
 use lib.ListN.{length, length-set}

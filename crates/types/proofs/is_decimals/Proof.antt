@@ -1,4 +1,4 @@
--- `is_decimals`: behind the point the digits decide.
+-- `is_decimals`: after the point the digits decide.
 use borrow.Author.Needs.{needs}
 use Rattle.types.proofs.TypeLaws.{digits-some, digits-all}
 use Rattle.types.proofs.is_decimals.Statement.{statement}

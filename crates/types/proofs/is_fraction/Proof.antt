@@ -1,4 +1,4 @@
--- `is_fraction`: behind the point the number of digits decides, or leaves the zone.
+-- `is_fraction`: after the point the number of digits decides, or leaves the zone.
 use mathlib.Core.Path.{_≡_, ap, _∙_}
 use mathlib.Core.Bool.{Bool, true, false, _&&_}
 use Prim.Native.Nat.{ℕ}

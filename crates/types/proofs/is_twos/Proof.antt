@@ -7,7 +7,8 @@ use borrow.Author.Needs.{needs}
 use borrow.Author.Tests.{not-true, not-false}
 use lib.ListN.{length, getD, drop}
 use Rattle.text.specs.Bytes.{Text, digit, every}
-use Rattle.types.specs.Types.{twos, rangesOf}
+use Rattle.types.specs.Types.{twos}
+use Rattle.types.specs.Inner.{rangesOf}
 use Rattle.types.proofs.TypeLaws.{digit-range, twos-step, twos-no-range, twos-no-digit, twos-end}
 use Rattle.text.proofs.Lists.{every-at}
 use Rattle.types.proofs.is_twos.Statement.{statement}

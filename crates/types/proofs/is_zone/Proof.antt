@@ -7,7 +7,8 @@ use borrow.Author.Needs.{needs}
 use lib.Dec.{eqb}
 use lib.ListN.{length, getD, drop}
 use Rattle.text.specs.Bytes.{Text, digit, every}
-use Rattle.types.specs.Types.{isZone, rangesOf, sign, twos, zone}
+use Rattle.types.specs.Types.{isZone, sign, twos, zone}
+use Rattle.types.specs.Inner.{rangesOf}
 use Rattle.types.proofs.TypeLaws.{no-bytes}
 use Rattle.text.proofs.Lists.{part-rest}
 use Rattle.types.proofs.is_zone.Statement.{statement}

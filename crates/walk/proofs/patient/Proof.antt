@@ -1,4 +1,4 @@
--- `patient`: the same as behind an NK1 comes next.
+-- `patient`: the same as after an NK1 comes next.
 use mathlib.Core.Path.{refl}
 use borrow.Author.Needs.{needs}
 use Rattle.walk.proofs.Walking.{answered, to-next, goes-on}

@@ -1,4 +1,4 @@
--- `read_on`: reading stops at the segment, or goes on to what is behind it.
+-- `read_on`: reading stops at the segment, or goes on to what is after it.
 use borrow.Author.Needs.{needs}
 use native.Mathlib.Omega.{arith}
 use Prim.Native.Nat.{_+_}

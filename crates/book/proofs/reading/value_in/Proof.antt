@@ -1,4 +1,4 @@
--- `value_in`: behind the tag and the length, up to the field's end.
+-- `value_in`: after the tag and the length, up to the field's end.
 use mathlib.Core.Path.{refl}
 use borrow.Author.Needs.{needs}
 use Rattle.book.proofs.reading.value_in.Statement.{statement}

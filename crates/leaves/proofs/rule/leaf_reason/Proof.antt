@@ -7,7 +7,7 @@ use borrow.Author.Tests.{not-false}
 use native.Mathlib.Omega.{arith}
 use Prim.Native.Nat.{_+_}
 use Rattle.profile.specs.Numbers.{limitColumn}
-use Rattle.leaves.proofs.LeafRule.{rule-missing, rule-empty, rule-long, rule-escape, rule-type, rule-list, rule-good}
+use Rattle.leaves.proofs.LeafRule.{row-reason, rule-missing, rule-empty, rule-long, rule-escape, rule-type, rule-list, rule-good}
 use Rattle.leaves.proofs.rule.leaf_reason.Statement.{statement}
 use Rattle.leaves.proofs.rule.leaf_reason.Tie as tie
 
@@ -51,6 +51,12 @@ returns-5 c =
     let good = ⊎-elim (λ w. sym (w .1 .ensures) ∙ w .2 .left) (λ w. o .pre .1 .1 (not-false _ (w .left))) (z .if4 .came) in
     rule-type (a .q) (a .table .now) (a .at) (a .s .now) (x .if1 .left) (y .if3 .left) false (sym good) refl _ (c .before .is-of-type .ensures) (c .if6 .taken)
 
+cast-result : tie.Need-cast-result
+cast-result c =
+    let v = c .before in
+    let a = v .before .before .before .before .before .before .before .before .before .before .before .before in
+    omega (arith, row-reason (a .args .table .now) (a .args .at) (a .args .s .now) _ (v .before .is-in-list .ensures) (v .if7 .taken) (a .pre .1 .0))
+
 returns-6 : tie.Need-returns-6
 returns-6 c =
     let v = c .before in
@@ -62,7 +68,7 @@ returns-6 c =
     let a = o .args in
     let good = ⊎-elim (λ w. sym (w .1 .ensures) ∙ w .2 .left) (λ w. o .pre .1 .1 (not-false _ (w .left))) (z .if4 .came) in
     rule-list (a .q) (a .table .now) (a .at) (a .s .now) (x .if1 .left) (y .if3 .left) false (sym good) refl
-    _ (w .before .is-of-type .ensures) (w .if6 .left) _ (v .before .is-in-list .ensures) (v .if7 .taken) (o .pre .1 .0 .0)
+    _ (w .before .is-of-type .ensures) (w .if6 .left) _ (v .before .is-in-list .ensures) (v .if7 .taken) (o .pre .1 .0)
 
 returns-7 : tie.Need-returns-7
 returns-7 c =
@@ -104,6 +110,6 @@ leaf-reason-spec =
     (λ c. search needs)
     (λ c. search needs)
     (λ c. search needs)
-    (λ c. search needs)
+    cast-result
     returns-6
     returns-7)

@@ -7,7 +7,7 @@ use mathlib.Core.List.{[], _∷_}
 use native.Mathlib.Omega.{arith}
 use lib.ListN.{length, drop}
 use Rattle.text.specs.Bytes.{cr}
-use Rattle.parts.specs.Split.{reach}
+use Rattle.parts.specs.Start.{reach}
 use Rattle.reader.specs.Copied.{standing}
 use Rattle.reader.proofs.Seek.{Sought, sought-first, sought-this, sought-another, sought-other, sought-none}
 use Rattle.reader.proofs.standing.occurrence.Statement.{statement}

@@ -1,4 +1,4 @@
--- `fill_group`: the texts are copied from where the segments stand, and what is behind the OBR is counted.
+-- `fill_group`: the texts are copied from where the segments stand, and what is after the OBR is counted.
 use native.Mathlib.Omega.{arith}
 use Rattle.text.specs.Bytes.{bytes}
 use Rattle.reader.proofs.Seek.{standing-inside}
