@@ -1,5 +1,5 @@
 -- In an accepted message each listed leaf of each listed segment keeps its rule, and a required field has the leaves that it must have.
-use mathlib.Core.Path.{_≡_, refl, sym, ap, subst, _∙_}
+use mathlib.Core.Path.{_≡_, refl, sym, subst, _∙_}
 use Prim.Native.Nat.{ℕ, zero, suc, _+_, _≤_, _<_}
 use native.Mathlib.Omega.{arith}
 use mathlib.Core.Bool.{Bool, true, false, not, _&&_}
@@ -14,7 +14,7 @@ use Rattle.text.specs.Marks.{marksOf}
 use Rattle.escape.specs.Escape.{badEscape}
 use Rattle.text.specs.Limits.{tooLong}
 use Rattle.text.proofs.Tests.{not-true, same-true}
-use Rattle.text.proofs.Lists.{All, all-map, all-both, all-keep, all-kept, every-all, some-mono, or-none}
+use Rattle.text.proofs.Lists.{All, all-map, all-both, all-keep, all-kept, every-all, or-none}
 use Rattle.frame.specs.Segments.{segments, name, named, ofName, occurrence, fewer}
 use Rattle.profile.specs.Table.{Table, Codes, any, only, Leaf, Rule, Usage, R, ofType, isListed, rulesOf, leavesOf}
 use Rattle.checks.specs.Place.{Place, place, leafAt, repetitions}

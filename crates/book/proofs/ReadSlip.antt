@@ -18,7 +18,7 @@ use Rattle.slip.specs.Slot.{slotSize, slotStart, noSlot}
 use Rattle.book.specs.declared.Value.{Value}
 use Rattle.book.specs.declared.Value.the-variants as code
 use Rattle.tags.specs.declared.Field.the-variants as field
-use Rattle.tags.specs.Fields.{placerTag, countTag, headSize, countSize, mostOf, fieldOf, size, hasTag, Expected, expect, taken, isSlipFrom}
+use Rattle.tags.specs.Fields.{placerTag, countTag, headSize, countSize, mostOf, expectedOf, size, hasTag, Expected, expect, taken, isSlipFrom}
 use Rattle.book.specs.Read.{expected, isSlip, Part, valueFrom, isNone, orNothing, readSlip}
 use Rattle.book.specs.Told.{valueOf}
 use Rattle.tags.specs.Inner.{longestField, ReadsTag}
@@ -27,7 +27,7 @@ use Rattle.book.specs.Inner.{readIn}
 -- the fields of n tags from k on
 unfoldable pub fieldsFrom : ℕ → ℕ → List Expected
 fieldsFrom zero k = []
-fieldsFrom (suc n) k = fieldOf k ∷ fieldsFrom n (k + 1)
+fieldsFrom (suc n) k = expectedOf k ∷ fieldsFrom n (k + 1)
 
 abbrev pub part : ℕ → ℕ → Part
 part a e = record { start = a; end = e }
@@ -117,7 +117,7 @@ read-none s base tag =
 
 module _ (s : Text) (base tag : ℕ) (found : Value) (at k : ℕ) (c : ReadTo s base tag found at k) where
   module _ (more : k < countTag) where
-    next : fieldsFrom (countTag - k) k ≡ fieldOf k ∷ fieldsFrom (countTag - (k + 1)) (k + 1)
+    next : fieldsFrom (countTag - k) k ≡ expectedOf k ∷ fieldsFrom (countTag - (k + 1)) (k + 1)
     unfolding fieldsFrom
     next = let e : countTag - k ≡ suc (countTag - (k + 1)) = omega arith in rw e
 
@@ -128,7 +128,7 @@ module _ (s : Text) (base tag : ℕ) (found : Value) (at k : ℕ) (c : ReadTo s 
     module _ (e : ℕ) (reads : ReadsTag s at k (field.Ends e)) where
       good-on : isSlipFrom (fieldsFrom (countTag - (k + 1)) (k + 1)) (drop e s) ≡ isSlip s
       unfolding isSlipFrom
-      good-on = rw (next, reads .0, drop-drop (taken (fieldOf k) (drop at s)) at s, ← reads .1 .0) at (c .good)
+      good-on = rw (next, reads .0, drop-drop (taken (expectedOf k) (drop at s)) at s, ← reads .1 .0) at (c .good)
 
       pub read-here : eqb tag k && ltb at e ≡ true → ReadTo s base tag (code.Part (base + at + headSize) (base + e)) e (k + 1)
       read-here w =

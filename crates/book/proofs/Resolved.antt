@@ -7,7 +7,7 @@ use mathlib.Core.List.{List, [], _∷_, map}
 use lib.ListN.{length}
 use Rattle.text.specs.Bytes.{Text, pick, printable, every}
 use Rattle.text.specs.Marks.{usual}
-use Rattle.escape.specs.Escape.{Escape, five, begins, isEscape, front, standsFor, stops, resolved}
+use Rattle.escape.specs.Escape.{Escape, five, beginsWith, isEscape, firstByte, standsFor, stops, resolved}
 use Rattle.text.specs.declared.marks.Marks.{Marks}
 use Rattle.text.proofs.Tests.{both, picks}
 use Rattle.text.proofs.Lists.{All, and-both}
@@ -30,11 +30,11 @@ pub usual-plain : PlainMarks usual
 usual-plain = record { field = refl; component = refl; subcomponent = refl; repetition = refl; escape = refl }
 
 -- an escape is turned into a separator, and any other byte stands for itself
-stands-plain : (q : Marks) (es : List Escape) (t : Text) → All (λ (e : Escape). printable (e .separator) ≡ true) es → printable (front t) ≡ true
+stands-plain : (q : Marks) (es : List Escape) (t : Text) → All (λ (e : Escape). printable (e .separator) ≡ true) es → printable (firstByte t) ≡ true
     → printable (standsFor q es t) ≡ true
 unfolding standsFor
 stands-plain q [] t a h = h
-stands-plain q (e ∷ es) t a h = picks (λ (b : ℕ). printable b ≡ true) (begins q t e) (a .0) (stands-plain q es t (a .1) h)
+stands-plain q (e ∷ es) t a h = picks (λ (b : ℕ). printable b ≡ true) (beginsWith q t e) (a .0) (stands-plain q es t (a .1) h)
 
 module _ (q : Marks) (p : PlainMarks q) where
   plain-over : (n : ℕ) (t : Text) → every printable t ≡ true → every printable (map (standsFor q (five q)) (stops q n t)) ≡ true

@@ -7,7 +7,7 @@ use mathlib.Core.List.{List, [], _∷_, _++_, append-assoc, append-nil, flatMap}
 use lib.ListN.{length, replicate, length-append, length-replicate}
 use Rattle.text.specs.Bytes.{Text}
 use Rattle.slip.specs.Slot.{slotSize, Tagged, tagged, twoBytes, tagBytes, slipOf}
-use Rattle.tags.specs.Fields.{placerTag, longestControl, longestText, greatestCount, headSize, Expected, fieldOf, hasTag}
+use Rattle.tags.specs.Fields.{placerTag, longestControl, longestText, greatestCount, headSize, Expected, expectedOf, hasTag}
 use Rattle.book.specs.Read.{expected}
 use Rattle.book.proofs.Fields.{Brief, Held, Reads, reads-field, reads-none, reads-count}
 
@@ -64,11 +64,11 @@ module _ (v1 v2 v3 v4 v5 : Text) (n : ℕ) (h1 : Held longestControl v1) (h2 : H
       ++ (tagBytes (tagged 3 v3)
       ++ (tagBytes (tagged 4 v4) ++ (tagBytes (tagged 5 v5) ++ (tagBytes (tagged 6 (twoBytes n)) ++ replicate z 0))))))
   fields-read z =
-      reads-field (fieldOf 1) v1 _ h1 (omega arith) _ _
-      (reads-field (fieldOf 2) v2 _ h2 (omega arith) _ _
-      (reads-optional (fieldOf 3) _ _ v3 _ h3 (omega arith) refl (other-tag v4 _ (h4 .some))
-      (reads-field (fieldOf 4) v4 _ h4 (omega arith) _ _
-      (reads-field (fieldOf 5) v5 _ h5 (omega arith) _ _ (reads-count n z l)))))
+      reads-field (expectedOf 1) v1 _ h1 (omega arith) _ _
+      (reads-field (expectedOf 2) v2 _ h2 (omega arith) _ _
+      (reads-optional (expectedOf 3) _ _ v3 _ h3 (omega arith) refl (other-tag v4 _ (h4 .some))
+      (reads-field (expectedOf 4) v4 _ h4 (omega arith) _ _
+      (reads-field (expectedOf 5) v5 _ h5 (omega arith) _ _ (reads-count n z l)))))
 
   -- THE SLIP IS READ AS IT WAS MADE
   pub slip-reads : Reads expected (sixValues v1 v2 v3 v4 v5 n) (slipOf (sixValues v1 v2 v3 v4 v5 n))

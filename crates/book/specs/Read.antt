@@ -9,13 +9,13 @@ use lib.Dec.{eqb}
 use Rattle.text.specs.Bytes.{Text, pick}
 use Rattle.text.specs.Answer.{Answer, Test, test, first}
 use Rattle.text.specs.declared.refusal.Refusal.the-variants.{NoSlot, BadSlip, NoTag}
-use Rattle.tags.specs.Fields.{countTag, headSize, Expected, size, hasTag, fieldOf, taken}
+use Rattle.tags.specs.Fields.{countTag, headSize, Expected, size, hasTag, expectedOf, taken}
 unfoldable pub use Rattle.tags.specs.Fields.{isSlipFrom}
 use Rattle.slip.specs.Slot.{slotSize, slotStart, noSlot}
 
 -- the five fields of text, in their order
 abbrev pub expected : List Expected
-expected = map fieldOf (1 ∷ 2 ∷ 3 ∷ 4 ∷ 5 ∷ [])
+expected = map expectedOf (1 ∷ 2 ∷ 3 ∷ 4 ∷ 5 ∷ [])
 
 -- A SLIP
 abbrev pub isSlip : Text → Bool

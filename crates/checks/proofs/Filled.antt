@@ -15,7 +15,7 @@ use Rattle.parts.proofs.Descent.{part-nil}
 use Rattle.frame.specs.Segments.{field, unsplit}
 use Rattle.profile.specs.Table.{Leaf}
 use Rattle.checks.specs.Place.{leafAt, repetitions}
-use Rattle.checks.specs.View.{Entry, Repetition, entriesAt, isFilled, addFilled, filledUpTo}
+use Rattle.checks.specs.View.{Entry, Repetition, entriesAt, isFilled, filledUpTo}
 use Rattle.checks.specs.Repetition.{leafIn, entriesOf, filledFrom, repetitionsIn}
 use Rattle.checks.specs.Fault.{startsFilled}
 use Rattle.checks.proofs.Leaf.{leaf-split, count-is}

@@ -12,7 +12,7 @@ use Rattle.text.specs.declared.marks.Marks.{Marks}
 use Rattle.text.specs.Marks.{marksOf}
 use Rattle.parts.specs.Split.{Located, nothing}
 use Rattle.parts.specs.Descent.{inField}
-use Rattle.parts.specs.Span.{partText, partStart}
+use Rattle.parts.specs.Span.{partStart}
 use Rattle.parts.proofs.Split.{Stands, stands-in}
 use Rattle.parts.proofs.Descent.{part-stands, part-start}
 use Rattle.frame.specs.Segments.{occurrence, occurrenceOf, fieldOf, field, unsplit}

@@ -2,7 +2,6 @@
 -- What stands of a text from a piece on, and of a segment from a field on. Only inner functions promise it.
 use mathlib.Core.Path.{_≡_}
 use Prim.Native.Nat.{ℕ, _+_}
-use mathlib.Core.Bool.{false}
 use mathlib.Core.List.{[]}
 use lib.ListN.{getD}
 use Rattle.text.specs.Bytes.{Text}

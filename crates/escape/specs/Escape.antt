@@ -32,25 +32,25 @@ five q =
     ∷ []
 
 -- the text begins with that escape: its first three bytes are \, the letter, and \ again
-abbrev pub begins : Marks → Text → Escape → Bool
-begins q t e = same (take 3 t) (q .escape ∷ e .letter ∷ q .escape ∷ [])
+abbrev pub beginsWith : Marks → Text → Escape → Bool
+beginsWith q t e = same (take 3 t) (q .escape ∷ e .letter ∷ q .escape ∷ [])
 
 -- the text begins with one of the five
 unfoldable pub isEscape : Marks → Text → Bool
-isEscape q t = some (begins q t) (five q)
+isEscape q t = some (beginsWith q t) (five q)
 
 -- the first byte
-abbrev pub front : Text → ℕ
-front t = getD t 0 0
+abbrev pub firstByte : Text → ℕ
+firstByte t = getD t 0 0
 
 -- the text begins with a \ that begins none of the five
 abbrev pub isBad : Marks → Text → Bool
-isBad q t = eqb (front t) (q .escape) && not (isEscape q t)
+isBad q t = eqb (firstByte t) (q .escape) && not (isEscape q t)
 
 -- what the text's beginning stands for: an escape for its separator, any other byte for itself
 unfoldable pub standsFor : Marks → List Escape → Text → ℕ
-standsFor q [] t = front t
-standsFor q (e ∷ es) t = pick (begins q t e) (e .separator) (standsFor q es t)
+standsFor q [] t = firstByte t
+standsFor q (e ∷ es) t = pick (beginsWith q t e) (e .separator) (standsFor q es t)
 
 -- READ FROM THE LEFT: the text from each byte on at which the reader stops. The number says how many bytes are yet to be passed over: where
 -- one of the five begins, the two after its first byte; else none.

@@ -3,12 +3,11 @@
 use Prim.Native.Nat.{ℕ}
 use mathlib.Core.Path.{_≡_}
 use mathlib.Core.Bool.{false}
-use mathlib.Core.List.{List, [], flatMap}
+use mathlib.Core.List.{List, flatMap}
 use lib.ListN.{length}
 use lib.Dec.{ltb}
-use Rattle.text.specs.Bytes.{Text, pick, empty}
+use Rattle.text.specs.Bytes.{Text}
 use Rattle.text.specs.declared.marks.Marks.{Marks}
-use Rattle.parts.specs.Split.{split}
 use Rattle.profile.specs.Table.{Leaf}
 use Rattle.leaves.specs.Judged.{told}
 use Rattle.fields.specs.declared.field.ReadField.{ReadField}

@@ -7,7 +7,7 @@ use mathlib.Core.List.{List, [], _∷_, map, dropLast}
 use lib.ListN.{length, getD}
 use Rattle.text.specs.Bytes.{Text, pick, cr, empty, keep}
 use Rattle.text.proofs.Tests.{not-true}
-use Rattle.parts.specs.Split.{split, piece, ended, Located, whole, nothing, inside}
+use Rattle.parts.specs.Split.{split, ended, Located, whole, nothing, inside}
 use Rattle.parts.proofs.Descent.{there, inside-start}
 use Rattle.parts.specs.Start.{before}
 use Rattle.frame.specs.Segments.{segments, named, ofName, occurrence, countFrom, locatedSegments, occurrenceOf}
@@ -17,15 +17,18 @@ use Rattle.frame.proofs.Segments.{ahead-named}
 abbrev textOf : Located → Text
 textOf s = s .text
 
+abbrev thoseNamed : Text → List Located → List Located
+thoseNamed n ls = keep (λ (x : Located). named n (x .text)) ls
+
 -- those of a name are told by their bytes
-kept-step : (n : Text) (s : Located) (ls : List Located) (b : Bool) → ((i : ℕ) → getD (keep (λ (x : Located). named n (x .text)) ls) i nothing .text ≡ getD (ofName n (map textOf ls)) i [])
-    → (i : ℕ) → getD (pick b (s ∷ keep (λ (x : Located). named n (x .text)) ls) (keep (λ (x : Located). named n (x .text)) ls)) i nothing .text
+kept-step : (n : Text) (s : Located) (ls : List Located) (b : Bool) → ((i : ℕ) → getD (thoseNamed n ls) i nothing .text ≡ getD (ofName n (map textOf ls)) i [])
+    → (i : ℕ) → getD (pick b (s ∷ thoseNamed n ls) (thoseNamed n ls)) i nothing .text
     ≡ getD (pick b (s .text ∷ ofName n (map textOf ls)) (ofName n (map textOf ls))) i []
 kept-step n s ls true ih zero = refl
 kept-step n s ls true ih (suc i) = ih i
 kept-step n s ls false ih i = ih i
 
-kept-text : (n : Text) (ls : List Located) (i : ℕ) → getD (keep (λ (x : Located). named n (x .text)) ls) i nothing .text ≡ getD (ofName n (map textOf ls)) i []
+kept-text : (n : Text) (ls : List Located) (i : ℕ) → getD (thoseNamed n ls) i nothing .text ≡ getD (ofName n (map textOf ls)) i []
 unfolding keep
 kept-text n [] i = refl
 kept-text n (s ∷ ls) i = kept-step n s ls (named n (s .text)) (kept-text n ls) i
@@ -51,9 +54,9 @@ module _ (m : Text) where
 
   -- the one of a name that has i of that name before it
   sought-step : (n s : Text) (ss : List Text) (k : ℕ) (b : Bool) → named n s ≡ b
-      → ((i : ℕ) → i < length (ofName n ss) → getD (keep (λ (x : Located). named n (x .text)) (piecesFrom (suc k) ss)) i nothing ≡ inside cr (suc (suc k + ahead n ss i)) (whole m))
+      → ((i : ℕ) → i < length (ofName n ss) → getD (thoseNamed n (piecesFrom (suc k) ss)) i nothing ≡ inside cr (suc (suc k + ahead n ss i)) (whole m))
       → (i : ℕ) → i < length (pick b (s ∷ ofName n ss) (ofName n ss))
-      → getD (pick b (inside cr (suc k) (whole m) ∷ keep (λ (x : Located). named n (x .text)) (piecesFrom (suc k) ss)) (keep (λ (x : Located). named n (x .text)) (piecesFrom (suc k) ss))) i nothing
+      → getD (pick b (inside cr (suc k) (whole m) ∷ thoseNamed n (piecesFrom (suc k) ss)) (thoseNamed n (piecesFrom (suc k) ss))) i nothing
       ≡ inside cr (suc (k + ahead n (s ∷ ss) i)) (whole m)
   unfolding ahead
   sought-step n s ss k true e ih zero l = let z : k + 0 ≡ k = omega arith in rw (e, z)
@@ -68,7 +71,7 @@ module _ (m : Text) where
       rw (e, z) (ih (suc i) l)
 
   sought : (n : Text) (k : ℕ) (ss : List Text) → Begins k ss → (i : ℕ) → i < length (ofName n ss)
-      → getD (keep (λ (x : Located). named n (x .text)) (piecesFrom k ss)) i nothing ≡ inside cr (suc (k + ahead n ss i)) (whole m)
+      → getD (thoseNamed n (piecesFrom k ss)) i nothing ≡ inside cr (suc (k + ahead n ss i)) (whole m)
   unfolding keep countFrom
   sought n k [] h i l = absurd (omega arith)
   sought n k (s ∷ ss) h i l =

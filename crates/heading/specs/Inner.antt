@@ -1,7 +1,6 @@
 -- Inner: no entry's promise is made of this.
 -- What only inner functions promise and ask for.
 use Prim.Native.Nat.{ℕ}
-use mathlib.Core.Bool.{false}
 use mathlib.Core.List.{[], _∷_, _++_}
 use Rattle.text.specs.Bytes.{Text, bytes, byte}
 use Rattle.text.specs.declared.marks.Marks.{Marks}

@@ -11,8 +11,8 @@ use Rattle.profile.specs.Lists.{lists}
 use Rattle.profile.specs.Leaves.{simple, HD, TS, MSG, PT, VID, CX, XPN, EI, CE}
 
 -- a type's leaf in a field: its limit and its list are those of its place, where it has some there
-abbrev pub inField : Text → ℕ → Leaf → Leaf
-inField n f l =
+abbrev pub asNoted : Text → ℕ → Leaf → Leaf
+asNoted n f l =
     record {
       component = l .component;
       subcomponent = l .subcomponent;
@@ -25,7 +25,7 @@ inField n f l =
 -- a field: a row for each of its leaves; a field whose type another field names
 abbrev pub field : string.String → ℕ → List Leaf → Usage → ℕ → List Row
 field s f ls u n =
-    map (λ (l : Leaf). record { segment = bytes s; field = f; usage = u; repetitions = n; lists = leaf (inField (bytes s) f l) }) ls
+    map (λ (l : Leaf). record { segment = bytes s; field = f; usage = u; repetitions = n; lists = leaf (asNoted (bytes s) f l) }) ls
 
 abbrev pub field-as : string.String → ℕ → ℕ → Usage → ℕ → List Row
 field-as s f g u n = record { segment = bytes s; field = f; usage = u; repetitions = n; lists = named-by g } ∷ []

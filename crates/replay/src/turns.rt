@@ -1,5 +1,4 @@
 // Lines are answered in the window on standard input as soon as they are whole.
-ghost use Prim.Native.Nat.{_≤_};
 ghost use lib.ListN.{length};
 ghost use Rattle.input.specs.Inside.{Inside};
 use crate::calls::answer;

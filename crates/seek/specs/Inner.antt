@@ -1,7 +1,6 @@
 -- Inner: no entry's promise is made of this.
 -- What only inner functions promise: where the leaf of a segment lies.
 use Prim.Native.Nat.{ℕ, _+_}
-use mathlib.Core.Bool.{false}
 use lib.ListN.{drop}
 use Rattle.text.specs.Bytes.{Text}
 use Rattle.text.specs.declared.marks.Marks.{Marks}

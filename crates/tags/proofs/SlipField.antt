@@ -15,7 +15,7 @@ use Rattle.text.proofs.Tests.{both}
 use Rattle.text.proofs.Lists.{part-rest}
 use Rattle.tags.specs.declared.Field.{Field}
 use Rattle.tags.specs.declared.Field.the-variants as field
-use Rattle.tags.specs.Fields.{controlTag, placerTag, countTag, longestControl, longestText, greatestCount, countSize, mostOf, fieldOf, size, value, hasTag, Expected, isThere, taken, isZero, isSlipFrom}
+use Rattle.tags.specs.Fields.{controlTag, placerTag, countTag, longestControl, longestText, greatestCount, countSize, mostOf, expectedOf, size, value, hasTag, Expected, isThere, taken, isZero, isSlipFrom}
 use Rattle.tags.specs.Inner.{ReadsTag}
 
 -- a field as its bytes in the slip tell it
@@ -57,8 +57,8 @@ number-small k n most limit fits =
 -- what a field's tests answer, one after another
 module _ (s : Text) (at k : ℕ) where
   module _ (gone : getD s at 0 ≡ k → ⊥) where
-    left-out : (isThere (fieldOf k) (drop at s) ≡ eqb k placerTag) × (taken (fieldOf k) (drop at s) ≡ 0)
-    left-out = gone-as (fieldOf k) (drop at s) (tag-at s at k false (ne-eqb (getD s at 0) k gone))
+    left-out : (isThere (expectedOf k) (drop at s) ≡ eqb k placerTag) × (taken (expectedOf k) (drop at s) ≡ 0)
+    left-out = gone-as (expectedOf k) (drop at s) (tag-at s at k false (ne-eqb (getD s at 0) k gone))
 
     pub field-skipped : k ≡ placerTag → ReadsTag s at k (field.Ends at)
     field-skipped e = (left-out .0 ∙ eq-eqb k placerTag e, (omega (arith, left-out .1), omega arith))
@@ -70,17 +70,17 @@ module _ (s : Text) (at k : ℕ) where
     tagged : hasTag k (drop at s) ≡ true
     tagged = tag-at s at k true (eq-eqb (getD s at 0) k there)
 
-    asked : isThere (fieldOf k) (drop at s) ≡ (leb 1 n && leb n most) && every printable (within (at + 3) (at + 3 + n) s)
+    asked : isThere (expectedOf k) (drop at s) ≡ (leb 1 n && leb n most) && every printable (within (at + 3) (at + 3 + n) s)
     asked =
         let e = size-at s at n number in
-        rw limit (there-as (fieldOf k) (drop at s) (within (at + 3) (at + 3 + n) s) n tagged (value-at s at n e) e)
+        rw limit (there-as (expectedOf k) (drop at s) (within (at + 3) (at + 3 + n) s) n tagged (value-at s at n e) e)
 
     pub field-length : not (leb 1 n && leb n most) ≡ true → ReadsTag s at k field.Bad
     field-length w = asked ∙ rw (not-true (leb 1 n && leb n most) w)
 
     module _ (fits : not (leb 1 n && leb n most) ≡ false) where
       module _ (b : Bool) (plain : b ≡ every printable (within (at + 3) (at + 3 + n) s)) where
-        printed : isThere (fieldOf k) (drop at s) ≡ b
+        printed : isThere (expectedOf k) (drop at s) ≡ b
         printed = asked ∙ rw (not-false (leb 1 n && leb n most) fits) (sym plain)
 
         pub field-bytes : not b ≡ true → ReadsTag s at k field.Bad
@@ -88,7 +88,7 @@ module _ (s : Text) (at k : ℕ) where
 
         pub field-read : not b ≡ false → ReadsTag s at k (field.Ends (at + 3 + n))
         field-read w =
-            let takes = taken-as (fieldOf k) (drop at s) n tagged (size-at s at n number) in
+            let takes = taken-as (expectedOf k) (drop at s) n tagged (size-at s at n number) in
             (printed ∙ not-false b w, (omega (arith, takes), omega (arith, number-small k n most limit fits)))
 
 -- the count and the zeros after it

@@ -59,8 +59,8 @@ abbrev pub mostOf : ℕ → ℕ
 mostOf k = pick (eqb k controlTag) longestControl longestText
 
 -- tag 3 may be left out
-abbrev pub fieldOf : ℕ → Expected
-fieldOf k = expect k (mostOf k) (eqb k placerTag)
+abbrev pub expectedOf : ℕ → Expected
+expectedOf k = expect k (mostOf k) (eqb k placerTag)
 
 -- it stands there as it should, or is left out as it may be
 abbrev pub isThere : Expected → Text → Bool

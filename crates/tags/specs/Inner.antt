@@ -7,7 +7,7 @@ use lib.ListN.{drop}
 use Rattle.text.specs.Bytes.{Text}
 use Rattle.tags.specs.declared.Field.{Field}
 use Rattle.tags.specs.declared.Field.the-variants as field
-use Rattle.tags.specs.Fields.{headSize, longestText, fieldOf, isThere, taken}
+use Rattle.tags.specs.Fields.{headSize, longestText, expectedOf, isThere, taken}
 
 -- bytes of the longest field
 abbrev pub longestField : ℕ
@@ -15,6 +15,6 @@ longestField = headSize + longestText
 
 -- a field as it stands at a place of a slip: bad, or it ends there
 abbrev pub ReadsTag : Text → ℕ → ℕ → Field → Type 0
-ReadsTag s at k field.Bad = isThere (fieldOf k) (drop at s) ≡ false
+ReadsTag s at k field.Bad = isThere (expectedOf k) (drop at s) ≡ false
 ReadsTag s at k (field.Ends e) =
-    (isThere (fieldOf k) (drop at s) ≡ true) × ((e ≡ at + taken (fieldOf k) (drop at s)) × (e ≤ at + longestField))
+    (isThere (expectedOf k) (drop at s) ≡ true) × ((e ≡ at + taken (expectedOf k) (drop at s)) × (e ≤ at + longestField))

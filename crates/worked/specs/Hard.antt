@@ -20,7 +20,7 @@ use Rattle.reply.specs.Error.{placeText}
 use Rattle.reply.specs.Reply.{reply}
 use Rattle.slip.specs.Book.{file, bookAfter}
 use Rattle.book.specs.Read.{isSlip, readSlip}
-use Rattle.worked.specs.Messages.{message, msh, pid, obr, obx, M, withMSH, withPID, withOBX, twoOrders, desk, outcome, replyTo, slipOf, partLine}
+use Rattle.worked.specs.Messages.{message, msh, pid, obr, obx, M, withMSH, withPID, withOBX, twoOrders, desk, outcome, replyTo, slipFiled, partLine}
 use Rattle.worked.specs.Worked.{Example, _says_, P3}
 
 abbrev yesNo : Bool → Text
@@ -263,17 +263,17 @@ longestSlip =
 
 unfoldable pub slips : List Example
 slips =
-    (slipOf longest 1 says longestSlip)
+    (slipFiled longest 1 says longestSlip)
     ∷ (yesNo (isSlip longestSlip) says bytes "yes")
     -- group 2 names its own OBR and counts its own OBX
-    ∷ (drop 11 (take 41 (slipOf twoOrders 2))
+    ∷ (drop 11 (take 41 (slipFiled twoOrders 2))
     says ((3 ∷ 0 ∷ 3 ∷ bytes "P&1") ++ (4 ∷ 0 ∷ 3 ∷ bytes "F10") ++ (5 ∷ 0 ∷ 7 ∷ bytes "54090-6") ++ (6 ∷ 0 ∷ 2 ∷ 0 ∷ 1 ∷ 0 ∷ 0 ∷ 0 ∷ [])))
-    ∷ (drop 26 (take 31 (slipOf twoOrders 1)) says (6 ∷ 0 ∷ 2 ∷ 0 ∷ 2 ∷ []))
+    ∷ (drop 26 (take 31 (slipFiled twoOrders 1)) says (6 ∷ 0 ∷ 2 ∷ 0 ∷ 2 ∷ []))
     -- the order of refusals; a slot number whose product with 1,024 would wrap
     ∷ (outcome (file profile01 [] 0 9 []) says bytes "refused 1")
     ∷ (outcome (file profile01 twoGroups 0 9 []) says bytes "refused 15")
-    ∷ (slipOf M 0 says bytes "refused 16")
-    ∷ (slipOf M 2 says bytes "refused 16")
+    ∷ (slipFiled M 0 says bytes "refused 16")
+    ∷ (slipFiled M 2 says bytes "refused 16")
     ∷ (outcome (file profile01 M 1 1 (replicate 2047 0)) says bytes "refused 17")
     ∷ (outcome (file profile01 M 1 (2 ^ 54) (replicate 2048 0)) says bytes "refused 17")
     ∷ (yesNo (isSlip (replicate 1024 0)) says bytes "no")

@@ -66,8 +66,8 @@ abbrev pub replyTo : Text → Text
 replyTo m = outcome (reply profile01 m (bytes "20240305101501") (bytes "K1") 1200)
 
 -- group g in slot 0 of an empty book of one slot
-abbrev pub slipOf : Text → ℕ → Text
-slipOf m g = outcome (file profile01 m g 0 (replicate 1024 0))
+abbrev pub slipFiled : Text → ℕ → Text
+slipFiled m g = outcome (file profile01 m g 0 (replicate 1024 0))
 
 -- the part of the book that is read
 abbrev pub partLine : Answer Part → Text

@@ -5,7 +5,7 @@ use mathlib.Core.Path.{_≡_}
 use mathlib.Core.List.{List, [], _∷_}
 use lib.ListN.{length, take, replicate}
 use Rattle.text.specs.Bytes.{Text, bytes}
-use Rattle.worked.specs.Messages.{message, msh, pid, obr, obx, M, withMSH, withPID, withOBX, withLine, desk, replyTo, slipOf}
+use Rattle.worked.specs.Messages.{message, msh, pid, obr, obx, M, withMSH, withPID, withOBX, withLine, desk, replyTo, slipFiled}
 
 pub record Example : Type 0 where
   pub given : Text
@@ -46,7 +46,7 @@ examples =
     (desk P1 says bytes "accepted")
     ∷ (desk P2 says bytes "fault OBX 1 5 1 1 1 102 7")
     -- P3
-    ∷ (slipOf P1 1 says P3)
+    ∷ (slipFiled P1 1 says P3)
     -- P4
     ∷ (replyTo P2
     says message

@@ -1,6 +1,5 @@
 -- `leaf_behind`: the descent from a segment's fields down.
 use Prim.Native.Nat.{_+_}
-use mathlib.Core.Bool.{false}
 use lib.ListN.{drop}
 use Rattle.parts.specs.Span.{partText, partStart}
 use Rattle.text.specs.Bytes.{within}
