@@ -1,4 +1,5 @@
 pub mod Numbered
+pub mod Spelled
 pub mod RowSteps
 pub mod Stretch
 pub mod Ascending

@@ -1,20 +1,18 @@
--- Laws of the numbers of names, types and lists.
+-- Laws of the numbers of names and types.
 use mathlib.Core.Path.{_≡_, refl, sym, ap, _∙_}
-use Prim.Native.Nat.{ℕ, zero, suc, _+_, _*_, _-_, _≤_, _<_}
-use native.Mathlib.Numerals.{add-one}
+use Prim.Native.Nat.{ℕ, suc, _+_, _*_, _-_, _≤_, _<_}
 use native.Mathlib.Omega.{arith}
-use mathlib.Core.Bool.{Bool, true, false, _&&_, _||_}
+use mathlib.Core.Bool.{Bool, true, false, _&&_}
 use mathlib.Core.List.{List, [], _∷_}
-use lib.ListN.{length, getD, drop, drop-of-length-le, List·getD-eq-default}
-use lib.Seq.{drop-cons}
-use lib.Dec.{eqb, ltb}
-use borrow.Author.Tests.{eq-eqb, ne-eqb, eqb-true, eqb-false, lt-ltb, le-ltb}
-use Rattle.text.specs.Bytes.{Text, pick, bytes, some, same, isOne}
+use lib.ListN.{length, getD}
+use lib.Dec.{eqb}
+use borrow.Author.Tests.{eq-eqb, ne-eqb, eqb-true, eqb-false}
+use Rattle.text.specs.Bytes.{Text, pick, bytes, same}
 use Rattle.text.proofs.Tests.{same-true, same-self, same-length}
 use Rattle.text.proofs.Lists.{All, and-true}
 use Rattle.profile.specs.Table.{ST, TX, FT, ID, IS, ofType}
-use Rattle.profile.specs.Lists.{oneEach, value-types}
-use Rattle.profile.specs.Numbers.{segmentNames, codeLists, isInList, simpleOf, numberIn, segmentNumber, typeNumber}
+use Rattle.profile.specs.Lists.{value-types}
+use Rattle.profile.specs.Numbers.{segmentNames, simpleOf, numberIn, segmentNumber, typeNumber}
 
 -- equality is tested either way round
 eqb-turned : (a b : ℕ) (x : Bool) → eqb a b ≡ x → eqb b a ≡ x
@@ -93,33 +91,6 @@ module _ (s : Text) where
       let not-two : (a b : ℕ) → same (a ∷ b ∷ []) s ≡ false = λ a b. same-length (a ∷ b ∷ []) s (λ h. l (sym h)) in
       rw (not-two 67 69, same-sym (bytes "DTM") s, e, not-two 70 84, not-two 78 77, not-two 83 78, not-two 83 84, not-two 84 77, not-two 84 88)
 
--- A LETTER out of a list: told from where the search stands
-pub letter-length : (s l : Text) → (length s ≡ 1 → ⊥) → false ≡ isOne s (oneEach l)
-unfolding some
-letter-length s [] h = refl
-letter-length s (b ∷ l) h = rw (same-length s (b ∷ []) h) (letter-length s l h)
-
-same-one : (s : Text) (b : ℕ) → length s ≡ 1 → same s (b ∷ []) ≡ eqb (getD s 0 0) b
-unfolding same
-same-one [] b h = absurd (omega arith)
-same-one (a ∷ []) b h = and-true (eqb a b)
-same-one (a ∷ c ∷ s) b h = absurd (omega arith)
-
-module _ (s l : Text) (i : ℕ) (one : length s ≡ 1) where
-  letter-here : i < length l → isOne s (oneEach (drop i l)) ≡ (eqb (getD s 0 0) (getD l i 0) || isOne s (oneEach (drop (i + 1) l)))
-  unfolding some
-  letter-here h = rw (add-one, drop-cons l i 0 h, same-one s (getD l i 0) one)
-
-  pub letter-found : i < length l → getD l i 0 ≡ getD s 0 0 → true ≡ isOne s (oneEach (drop i l))
-  letter-found h e = rw (letter-here h, eq-eqb (getD s 0 0) (getD l i 0) (sym e))
-
-  pub letter-on : i < length l → (getD l i 0 ≡ getD s 0 0 → ⊥) → isOne s (oneEach (drop (i + 1) l)) ≡ isOne s (oneEach (drop i l))
-  letter-on h e = rw (letter-here h, ne-eqb (getD s 0 0) (getD l i 0) (λ x. e (sym x)))
-
-  pub letter-none : length l ≤ i → false ≡ isOne s (oneEach (drop i l))
-  unfolding some
-  letter-none h = rw (drop-of-length-le l h)
-
 -- TYPES that take any text
 any-text : (a b c d : Bool) (t : Text) → true ≡ ofType (pick a ST (pick b TX (pick c FT (pick d ID IS)))) t
 any-text true b c d t = refl
@@ -131,30 +102,8 @@ any-text false false false false t = refl
 pub other-type : (n : ℕ) (t : Text) → (n ≡ 1 → ⊥) → (n ≡ 2 → ⊥) → (n ≡ 3 → ⊥) → (n ≡ 4 → ⊥) → true ≡ ofType (simpleOf n) t
 other-type n t a b c d = rw (ne-eqb n 1 a, ne-eqb n 2 b, ne-eqb n 3 c, ne-eqb n 4 d) (any-text (eqb n 5) (eqb n 6) (eqb n 7) (eqb n 8) t)
 
--- THE LIST of OBX-2 has the types with a number below 16; a number beyond the lists is an empty list
-in-step : (b r : Bool) (k j none : ℕ) → k < none → r ≡ ltb j none → b || r ≡ ltb (pick b k j) none
-in-step true r k j none l e = sym (lt-ltb k none l)
-in-step false r k j none l e = e
-
-in-number : (k none : ℕ) (ns : List Text) (t : Text) → k + length ns ≡ none → isOne t ns ≡ ltb (numberIn none k ns t) none
-unfolding some numberIn
-in-number k none [] t e = sym (le-ltb none none (omega arith))
-in-number k none (n ∷ ns) t e =
-    rw (same-sym t n) (in-step (same n t) (isOne t ns) k (numberIn none (suc k) ns t) none (omega arith) (in-number (suc k) none ns t (omega arith)))
-
-pub in-value-types : (t : Text) → ltb (typeNumber t) 16 ≡ isOne t value-types
-in-value-types t = sym (in-number 8 16 value-types t refl)
-
 pub not-zero : (n : ℕ) → (n ≡ 0 → ⊥) → 1 ≤ n
 not-zero n e = omega (arith, e)
-
-pub above : (k n : ℕ) → k ≤ n → (n ≡ k → ⊥) → suc k ≤ n
-above k n h e = omega (arith, e)
-
-pub beyond-lists : (n : ℕ) (t : Text) → 11 ≤ n → false ≡ isInList n t
-unfolding some
-beyond-lists zero t h = absurd (omega arith)
-beyond-lists (suc i) t h = rw (List·getD-eq-default codeLists [] {n = i} (omega arith))
 
 -- WHICH NAME has a number, counted from k
 module _ (n : Text) where

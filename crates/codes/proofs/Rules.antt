@@ -16,6 +16,7 @@ use Rattle.profile.specs.Table.{Leaf, Row, Table, typeLeaves, isListed, gathere
 use Rattle.profile.specs.Lists.{value-types}
 use Rattle.profile.specs.Numbers.{segmentNames, leafOf, rowOf, rowsWithin, begin, under, leavesUnder, numberIn, segmentNumber, typeNumber, typesFrom, segmentsFrom, tableOf, AreTable, rowSize, fieldColumn, sureColumn, firstType, noType}
 use Rattle.profile.specs.Order.{ofField, guides, Sound}
+use Rattle.profile.specs.Codes.{HasLists}
 use Rattle.codes.specs.Inner.{Ascends, SureUpTo, Under, Lists, leavesNamed}
 use Rattle.codes.specs.declared.rows.Rows.{Rows}
 use Rattle.codes.proofs.Numbered.{type-number-range}
@@ -73,14 +74,15 @@ type-sure table k r h u some =
     let n : getD x sureColumn 0 ≡ getD table (r .start + sureColumn) 0 = getD-drop (r .start) table sureColumn 0 in
     rw (is, ← n) (sure-leaves x rs (sure-rows x rs (x ∷ rs) [] guided (sym (append-nil (x ∷ rs))) count (rw n some)))
 
-pub type-lists : (table : List ℕ) (x : Text) (k : ℕ) (r : Rows) → k ≡ typeNumber x → Under table k r → Lists table r (leavesNamed table x)
-type-lists table x k r e u =
+pub type-lists : (table : List ℕ) (x : Text) (k : ℕ) (r : Rows) → HasLists table → k ≡ typeNumber x → Under table k r → Lists table r (leavesNamed table x)
+type-lists table x k r c e u =
     let named : map leafOf (under k table) ≡ leavesNamed table x = ap (λ (j : ℕ). leavesUnder j table) e ∙ sym (named-leaves table x) in
     record {
       some = u .some;
       inside = u .inside;
       leaves = ap (λ (l : List (List ℕ)). map leafOf l) (u .rows) ∙ named;
       ascends = subst (Ascends 1) named (type-ascends k (omega (arith, e, type-number-range x)) (under k table) (u .ordered) (u .numbered));
+      codes = c;
       sure = λ some. subst (SureUpTo (getD table (r .start + sureColumn) 0)) named (type-sure table k r (omega (arith, e, type-number-range x)) u some);
     }
 

@@ -12,6 +12,7 @@ use Rattle.text.specs.Bytes.{every}
 use Rattle.text.proofs.Tests.{both}
 use Rattle.text.proofs.Lists.{and-both}
 use Rattle.profile.specs.Numbers.{rowsFrom, rowsWithin, begin, under, rowSize, noType}
+use Rattle.codes.proofs.Spelled.{lists-inside}
 use Rattle.profile.specs.Order.{areOf, rankOf, rising, rises, isNamed, sameField, alone, behind, isWhole, Ordered, Sound, guides}
 use Rattle.codes.specs.Inner.{Under}
 use Rattle.codes.proofs.RowSteps.{rows-cut, rows-sooner}
@@ -101,7 +102,7 @@ every-up f (suc n) a (suc i) h e =
 -- what the rule says of the rows under a number
 pub record Whole (table : List ℕ) (k : ℕ) : Type 0 where
   pub count : ℕ
-  pub starts : begin table k ≡ behind + count * rowSize
+  pub starts : begin table k ≡ behind table + count * rowSize
   pub some : begin table k + rowSize ≤ begin table (suc k)
   pub inside : begin table (suc k) ≤ length table
   pub numbered : areOf k (under k table) ≡ true
@@ -109,7 +110,7 @@ pub record Whole (table : List ℕ) (k : ℕ) : Type 0 where
 
 whole : (table : List ℕ) (k : ℕ) → isWhole k table ≡ true → Whole table k
 whole table k e =
-    let a = eqb (begin table k) (behind + (begin table k - behind) / rowSize * rowSize) in
+    let a = eqb (begin table k) (behind table + (begin table k - behind table) / rowSize * rowSize) in
     let b = leb (begin table k + rowSize) (begin table (suc k)) in
     let c = leb (begin table (suc k)) (length table) in
     let d = areOf k (under k table) in
@@ -118,8 +119,8 @@ whole table k e =
     let i = both (a && b) c (h .0) in
     let j = both a b (i .0) in
     record {
-      count = (begin table k - behind) / rowSize;
-      starts = eqb-true (begin table k) (behind + (begin table k - behind) / rowSize * rowSize) (j .0);
+      count = (begin table k - behind table) / rowSize;
+      starts = eqb-true (begin table k) (behind table + (begin table k - behind table) / rowSize * rowSize) (j .0);
       some = leb-true (begin table k + rowSize) (begin table (suc k)) (j .1);
       inside = leb-true (begin table (suc k)) (length table) (i .1);
       numbered = h .1;
@@ -139,16 +140,14 @@ module _ (table : List ℕ) (s : Sound table) (k : ℕ) (low : 1 ≤ k) (high : 
       let e = begin table (suc k) in
       let n = (length table - b) / rowSize - (e - b) / rowSize in
       let later : Ordered (rowsWithin b (length table) table) =
-      ordered-right (rowsWithin behind b table) (rowsWithin b (length table) table)
-      (subst Ordered (rows-cut table behind (length table) b (w .count) (w .starts) (omega arith)) (s .rows))
+      ordered-right (rowsWithin (behind table) b table) (rowsWithin b (length table) table)
+      (subst Ordered (rows-cut table (behind table) (length table) b (w .count) (w .starts) (omega arith)) (s .rows))
       in
       ordered-left (under k table) (rowsFrom n (drop ((e - b) / rowSize * rowSize) (drop b table)))
       (subst Ordered (rows-sooner table b e (length table) (w .inside)) later)
 
   pub under-inside : k + 1 < length table
-  under-inside =
-      let w = under-whole in
-      omega (arith, w .starts, w .some, w .inside)
+  under-inside = omega (arith, lists-inside table (s .lists))
 
   pub under-rows : Under table k (record { start = begin table k; end = begin table (k + 1) })
   under-rows =

@@ -5,11 +5,13 @@ use mathlib.Core.Path.{_≡_}
 use mathlib.Core.Bool.{true}
 use mathlib.Core.List.{List, [], _∷_, map}
 use lib.ListN.{length, getD, drop}
-use Rattle.text.specs.Bytes.{Text, every}
+use Rattle.text.specs.Bytes.{Text, every, within}
 use Rattle.profile.specs.Table.{Leaf, Rule, typeLeaves}
-use Rattle.profile.specs.Numbers.{rowSize, segmentColumn, fieldColumn, usageColumn, repetitionsColumn, sureColumn, leafOf, listedOf, usageOf, rowsWithin, under, tableOf}
+use Rattle.profile.specs.Numbers.{codesIn, codesOf, rowSize, segmentColumn, fieldColumn, usageColumn, repetitionsColumn, sureColumn, leafOf, listedOf, usageOf, rowsWithin, under, tableOf}
 use Rattle.profile.specs.Order.{reasonFits, sameField, areOf, Ordered, guides, takesUpTo}
+use Rattle.profile.specs.Codes.{codesFrom, areCodes, HasLists}
 use Rattle.codes.specs.declared.rows.Rows.{Rows}
+use Rattle.codes.specs.declared.lists.CodeRange.{CodeRange}
 
 -- the leaves that rows list
 abbrev pub leavesAt : List ℕ → Rows → List Leaf
@@ -56,7 +58,14 @@ pub record Lists (table : List ℕ) (r : Rows) (ls : List Leaf) : Type 0 where
   pub inside : r .end ≤ length table
   pub leaves : leavesAt table r ≡ ls
   pub ascends : Ascends 1 ls
+  pub codes : HasLists table
   pub sure : 1 ≤ getD table (r .start + sureColumn) 0 → SureUpTo (getD table (r .start + sureColumn) 0) ls
 
 abbrev pub leavesNamed : List ℕ → Text → List Leaf
 leavesNamed table n = typeLeaves (tableOf table .types) (tableOf table .otherwise) n
+
+-- the codes of the list with that number, whatever its reason
+pub record AreListed (lists : List ℕ) (n : ℕ) (r : CodeRange) : Type 0 where
+  pub inside : r .end ≤ length lists
+  pub whole : areCodes (within (r .start) (r .end) lists) ≡ true
+  pub codes : (reason : ℕ) → codesFrom (within (r .start) (r .end) lists) ≡ codesIn (codesOf n reason)

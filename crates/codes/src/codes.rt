@@ -1,10 +1,8 @@
-// Types, lists and names by their numbers in a table.
+// Types and names by their numbers in a table.
 ghost use mathlib.Core.Path.{_≡_};
 ghost use mathlib.Core.List.{[], _∷_};
-ghost use Rattle.text.specs.Bytes.{isOne};
 ghost use Rattle.profile.specs.Table.{ofType};
-ghost use Rattle.profile.specs.Lists.{oneEach};
-ghost use Rattle.profile.specs.Numbers.{simpleOf, isInList, segmentNumber, typeNumber};
+ghost use Rattle.profile.specs.Numbers.{simpleOf, segmentNumber, typeNumber};
 use profile::numbers;
 use text::is_same;
 use types::is_dtm;
@@ -23,23 +21,6 @@ pub fn is_of_type(n: u16, s: &[u8]) -> bool
         numbers::TM => is_tm(s),
         _ => true,
     }
-}
-
-// Whether a text is one of these letters.
-fn is_letter(s: &[u8], letters: &[u8]) -> bool
-    ensures { λ r. ⌜ r ≡ isOne (now (s .entry)) (oneEach (now (letters .entry))) ⌝ }
-{
-    if s.len() != 1 {
-        return false;
-    }
-    let mut i = 0;
-    while i < letters.len() {
-        if letters[i] == s[0] {
-            return true;
-        }
-        i += 1;
-    }
-    false
 }
 
 // The number of the type that two letters name.
@@ -81,26 +62,6 @@ pub fn type_number(s: &[u8]) -> u16
         return numbers::AS_DTM;
     }
     numbers::AS_NONE
-}
-
-// Whether a text is in the list with that number; list 0 takes any text.
-pub fn is_in_list(n: u16, s: &[u8]) -> bool
-    ensures { λ r. ⌜ r ≡ isInList n (now (s .entry)) ⌝ }
-{
-    match n {
-        numbers::ANY => true,
-        numbers::MESSAGE_TYPES => is_same(s, b"ORU"),
-        numbers::EVENTS => is_same(s, b"R01"),
-        numbers::PROCESSING_IDS => is_letter(s, b"DPT"),
-        numbers::VERSIONS => is_same(s, b"2.5.1"),
-        numbers::SEXES => is_letter(s, b"AFMNOU"),
-        numbers::YES_NO => is_letter(s, b"YN"),
-        numbers::ORDER_CONTROLS => is_same(s, b"RE"),
-        numbers::RESULT_STATUSES => is_letter(s, b"ACFIOPRSXYZ"),
-        numbers::VALUE_TYPES => type_number(s) < numbers::AS_NONE,
-        numbers::OBSERVATION_STATUSES => is_letter(s, b"CDFINOPRSUWX"),
-        _ => false,
-    }
 }
 
 // The number of the segment with that name, 0 where none is listed.

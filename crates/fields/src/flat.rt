@@ -11,8 +11,8 @@ use checks::reasons;
 use codes::Rows;
 use cursor::advance;
 use cursor::first_piece;
-use leaves::leaf_reason;
 use leaves::missing_leaves;
+use leaves::plain_reason;
 use leaves::takes_any;
 use profile::columns;
 use text::Marks;
@@ -66,7 +66,7 @@ fn one_leaf_passes(s: &[u8], q: Marks, table: &[u16], rows: Rows) -> bool
     if leaf.len() == 0 {
         return false;
     }
-    leaf_reason(leaf, q, true, table, at) == reasons::NOTHING_BROKEN
+    plain_reason(leaf, table, at) == reasons::NOTHING_BROKEN
 }
 
 // Whether the components are seen to be leaves that break nothing, some of them filled.
@@ -92,7 +92,7 @@ fn leaves_pass(s: &[u8], q: Marks, table: &[u16], rows: Rows) -> bool
         let to = cursor.end;
         let leaf = &s[from..to];
         if !takes_any(leaf.len(), table, at) {
-            if leaf_reason(leaf, q, true, table, at) != reasons::NOTHING_BROKEN {
+            if plain_reason(leaf, table, at) != reasons::NOTHING_BROKEN {
                 return false;
             }
         }

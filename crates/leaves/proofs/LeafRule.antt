@@ -1,5 +1,5 @@
 -- The first check that a leaf's text breaks: one law for each way out.
-use mathlib.Core.Path.{_≡_, refl, sym}
+use mathlib.Core.Path.{_≡_, refl, sym, _∙_}
 use Prim.Native.Nat.{ℕ, zero, suc, _+_, _≤_, _<_}
 use native.Mathlib.Omega.{arith}
 use mathlib.Core.Bool.{Bool, true, false, not}
@@ -25,6 +25,9 @@ use Rattle.leaves.specs.Judged.{told}
 no-escape : (q : Marks) (s : Text) → length s ≡ 0 → badEscape q s ≡ false
 no-escape q [] e = bad-none q
 no-escape q (b ∷ s) e = absurd (omega arith)
+
+pub escape-some : (q : Marks) (s : Text) → badEscape q s ≡ true → length s ≡ 0 → ⊥
+escape-some q s e none = no (sym (no-escape q s none) ∙ e)
 
 -- the list's check, where there is one: Empty passes; any other text is in the list or not
 no-text : (p : Place) (c : Codes) (s : Text) → empty s ≡ true → firstBroken (listChecks p c s) ≡ accepted
@@ -101,6 +104,11 @@ module _ (q : Marks) (table : List ℕ) (at : ℕ) (s : Text) where
             pub rule-good : not listed ≡ false → (p : Place) → accepted ≡ first p
             unfolding firstBroken
             rule-good e p = rw (short p, ← escaped, good, ← is-typed, of-type, by-list p (number listColumn) (number reasonColumn) s filled, ← is-listed, e)
+
+-- a text that is not too long has no bad escape
+pub plain-good : (q : Marks) (table : List ℕ) (at : ℕ) (s : Text) → (length s ≤ leafOf (drop at table) .limit → badEscape q s ≡ false)
+    → length s ≤ getD table (at + limitColumn) 0 → badEscape q s ≡ false
+plain-good q table at s good h = good (rw (getD-drop at table limitColumn 0) h)
 
 -- a leaf whose type and list take any text
 pub rule-any : (q : Marks) (table : List ℕ) (at : ℕ) (s : Text) → 0 < length s → length s ≤ getD table (at + limitColumn) 0 → 4 < getD table (at + typeColumn) 0 → getD table (at + listColumn) 0 ≡ 0 → badEscape q s ≡ false

@@ -1,6 +1,6 @@
 -- Inner: no entry's promise is made of this.
 -- What only inner functions promise of judging a repetition: its first broken check, told from where a reader stands.
-use Prim.Native.Nat.{ℕ}
+use Prim.Native.Nat.{ℕ, _≤_}
 use mathlib.Core.Path.{_≡_}
 use mathlib.Core.Bool.{Bool, false}
 use mathlib.Core.List.{List, []}
@@ -23,6 +23,10 @@ told p n = pick (eqb n 0) accepted (fault p n)
 -- A LEAF: its first broken check
 abbrev pub ReadsLeaf : Marks → Leaf → Text → ℕ → Type 0
 ReadsLeaf q l s r = (p : Place) → told p r ≡ firstBroken (leafChecks q p l s)
+
+-- of a text that has no bad escape, or is too long at the leaf
+abbrev pub ReadsPlain : Leaf → Text → ℕ → Type 0
+ReadsPlain l s r = (q : Marks) → (length s ≤ l .limit → badEscape q s ≡ false) → ReadsLeaf q l s r
 
 -- any text of n bytes with no bad escape will do at a leaf
 abbrev pub TakesAny : Leaf → ℕ → Type 0

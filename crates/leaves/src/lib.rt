@@ -5,5 +5,5 @@ mod rule;
 pub use repetition::ReadRepetition;
 pub use repetition::missing_leaves;
 pub use repetition::read_repetition;
-pub use rule::leaf_reason;
+pub use rule::plain_reason;
 pub use rule::takes_any;

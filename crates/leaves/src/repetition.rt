@@ -80,7 +80,7 @@ pub fn read_repetition(s: &[u8], q: Marks, table: &[u16], rows: Rows) -> ReadRep
         let b = p.end;
         found.filled = found.filled | (a < b);
         if found.reason == reasons::NOTHING_BROKEN {
-            found.reason = leaf_reason(&part[a..b], q, false, table, at);
+            found.reason = leaf_reason(&part[a..b], q, table, at);
             found.component = number;
             found.subcomponent = sub;
         }

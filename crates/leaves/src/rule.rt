@@ -1,12 +1,12 @@
 // A leaf's own rule. Inner: the callers hold that a row stands there.
 ghost use mathlib.Core.Path.{_≡_};
-ghost use mathlib.Core.Bool.{true, false};
+ghost use mathlib.Core.Bool.{true};
 ghost use Prim.Native.Nat.{_+_, _≤_};
 ghost use lib.ListN.{length, drop};
-ghost use Rattle.escape.specs.Escape.{badEscape};
+ghost use Rattle.profile.specs.Codes.{HasLists};
 ghost use Rattle.profile.specs.Numbers.{leafOf, rowSize};
 ghost use Rattle.profile.specs.Order.{reasonFits};
-ghost use Rattle.leaves.specs.Judged.{ReadsLeaf, TakesAny};
+ghost use Rattle.leaves.specs.Judged.{ReadsLeaf, ReadsPlain, TakesAny};
 use checks::reasons;
 use codes::is_in_list;
 use codes::is_of_type;
@@ -15,13 +15,12 @@ use profile::columns;
 use profile::numbers;
 use text::Marks;
 
-// The reason of the first check that a leaf's text breaks, 0 where it breaks none. The row of the leaf begins at `at`. A caller who has
-// seen that there is no escape says so.
-pub fn leaf_reason(s: &[u8], q: Marks, unescaped: bool, table: &[u16], at: usize) -> u8
-    requires { ⌜ at + rowSize ≤ length (now table) ⌝ }
+// The reason of the first check that a leaf's text breaks, 0 where it breaks none; a caller who knows no bad escape in it asks this. The row of the leaf
+// begins at `at`.
+pub fn plain_reason(s: &[u8], table: &[u16], at: usize) -> u8
+    requires { ⌜ (at + rowSize ≤ length (now table)) × HasLists (now table) ⌝ }
     requires { ⌜ reasonFits (leafOf (drop at (now table)) .list) ≡ true ⌝ }
-    requires { ⌜ (unescaped ≡ true → badEscape q (now s) ≡ false) ⌝ }
-    ensures { λ r. ⌜ ReadsLeaf q (leafOf (drop at (now (table .entry)))) (now (s .entry)) r ⌝ }
+    ensures { λ r. ⌜ ReadsPlain (leafOf (drop at (now (table .entry)))) (now (s .entry)) r ⌝ }
 {
     if s.len() == 0 {
         if table[at + columns::STAR] == numbers::STARRED {
@@ -32,18 +31,28 @@ pub fn leaf_reason(s: &[u8], q: Marks, unescaped: bool, table: &[u16], at: usize
     if (table[at + columns::LIMIT] as usize) < s.len() {
         return reasons::TOO_LONG;
     }
-    if !unescaped {
+    if !is_of_type(table[at + columns::TYPE], s) {
+        return reasons::NOT_OF_ITS_TYPE;
+    }
+    let end = table[columns::LISTS_END] as usize;
+    if !is_in_list(&table[columns::LISTS..end], table[at + columns::LIST], s) {
+        return table[at + columns::REASON] as u8;
+    }
+    reasons::NOTHING_BROKEN
+}
+
+// The same of any text: a bad escape is told where the text is not too long, before its type and its list.
+pub fn leaf_reason(s: &[u8], q: Marks, table: &[u16], at: usize) -> u8
+    requires { ⌜ (at + rowSize ≤ length (now table)) × HasLists (now table) ⌝ }
+    requires { ⌜ reasonFits (leafOf (drop at (now table)) .list) ≡ true ⌝ }
+    ensures { λ r. ⌜ ReadsLeaf q (leafOf (drop at (now (table .entry)))) (now (s .entry)) r ⌝ }
+{
+    if s.len() <= table[at + columns::LIMIT] as usize {
         if bad_escape(q, s) {
             return reasons::BAD_ESCAPE;
         }
     }
-    if !is_of_type(table[at + columns::TYPE], s) {
-        return reasons::NOT_OF_ITS_TYPE;
-    }
-    if !is_in_list(table[at + columns::LIST], s) {
-        return table[at + columns::REASON] as u8;
-    }
-    reasons::NOTHING_BROKEN
+    plain_reason(s, table, at)
 }
 
 // Whether any text of that length, with no bad escape, will do at the leaf of a row: it has some bytes and not too many, and the leaf's type

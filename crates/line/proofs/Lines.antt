@@ -23,7 +23,7 @@ pub place-written : (n o f r c b : Text)
 unfolding led
 place-written n o f r c b = simp (append-assoc, append-nil)
 
-led-more : (sep : ℕ) (ps qs : List Text) → led sep (ps ++ qs) ≡ led sep ps ++ led sep qs
+pub led-more : (sep : ℕ) (ps qs : List Text) → led sep (ps ++ qs) ≡ led sep ps ++ led sep qs
 unfolding led
 led-more sep [] qs = refl
 led-more sep (p ∷ ps) qs = ap (λ (l : Text). sep ∷ p ++ l) (led-more sep ps qs) ∙ ap (_∷_ sep) (sym (append-assoc p (led sep ps) (led sep qs)))

@@ -18,6 +18,7 @@ use Rattle.cursor.proofs.Moving.{cursor, cursor-text, cursor-first}
 use Rattle.frame.specs.Segments.{field}
 use Rattle.profile.specs.Table.{Leaf}
 use Rattle.codes.specs.declared.rows.Rows.{Rows}
+use Rattle.profile.specs.Codes.{HasLists}
 use Rattle.codes.specs.Inner.{Lists, Ascends, IsField, leavesAt, leavesNamed}
 use Rattle.codes.proofs.OneField.{field-namer, leaves-plain, leaves-named}
 use Rattle.checks.proofs.Leaf.{leaf-split}
@@ -70,14 +71,15 @@ number-step k n h = omega arith
 
 -- THE ROWS that list a field's leaves: its own
 module _ (q : Marks) (table : List ℕ) (s : Text) (k at end : ℕ) (is : IsField table k at end) where
-  pub lists-own : getD table (at + typeColumn) 0 < 10 → Lists table (record { start = at; end = end }) (leavesOfField q table s at end)
-  lists-own l =
+  pub lists-own : HasLists table → getD table (at + typeColumn) 0 < 10 → Lists table (record { start = at; end = end }) (leavesOfField q table s at end)
+  lists-own has l =
       let w = leaves-plain table k at end is l (namedIn q s) in
       record {
         some = is .some;
         inside = is .inside;
         leaves = sym (w .0);
         ascends = subst (λ (ls : List Leaf). Ascends 1 ls) (sym (w .0)) (w .1);
+        codes = has;
         sure = λ some.
             let n = getD-drop at table sureColumn 0 in
             rw (w .0, ← n) (is .sure (rw n some));

@@ -63,8 +63,12 @@ pub fn segment_passes(s: &[u8], q: Marks, table: &[u16], k: u16) -> bool
         let from = cursor.start;
         let to = cursor.end;
         if from == to {
-            if !may_be_empty(s, q, table, k, at) {
-                return false;
+            // Most fields that are not there are optional, and this spares them the call.
+            let usage = table[at + columns::USAGE];
+            if usage != numbers::OPTIONAL {
+                if !may_be_empty(s, q, table, k, at) {
+                    return false;
+                }
             }
         } else {
             if !flat {

@@ -8,8 +8,10 @@ pub mod Fields
 pub mod Profile
 -- A demand is said with this.
 pub mod Fit
--- No entry's promise is made of this: it is a theorem about the definitions.
+-- No entry's promise is made of these: they are theorems about the definitions.
 pub mod Rising
+pub mod EachCode
 -- Inner: no entry's promise is made of these.
 pub mod Numbers
+pub mod Codes
 pub mod Order

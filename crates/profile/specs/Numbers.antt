@@ -1,6 +1,6 @@
 -- Inner: no entry's promise is made of this.
--- A table as the machine has it: an index, then the rows. The rows of the segments stand under the numbers 1 to 7; under 8 to 15 stand the leaves of
--- the types that a field may name, in the order of OBX-2's list, and under 16 those where it names none.
+-- A table as the machine has it: an index of the rows, the lists (Codes.antt), then the rows. The rows of the segments stand under the numbers 1 to 7; under 8
+-- to 15 stand the leaves of the types that a field may name, in the order of OBX-2's list, and under 16 those where it names none.
 use Prim.Native.Nat.{ℕ, zero, suc, _+_, _-_, _/_}
 use mathlib.Core.Path.{_≡_}
 use mathlib.Core.Bool.{Bool, true}

@@ -9,7 +9,8 @@ use lib.Dec.{eqb, leb, ltb}
 use Rattle.text.specs.Bytes.{pick, every}
 use Rattle.text.specs.Limits.{_to_, isWithin}
 use Rattle.profile.specs.Table.{Simple, SI, NM, DTM, TM, ST, TX, FT, ID, IS, Codes, any, only, Leaf}
-use Rattle.profile.specs.Numbers.{rowSize, segmentColumn, fieldColumn, componentColumn, subcomponentColumn, repetitionsColumn, typeColumn, nextColumn, sureColumn, firstType, noType, namedBy, firstField, firstNamer, leafOf, rowsWithin, begin, under}
+use Rattle.profile.specs.Codes.{HasLists}
+use Rattle.profile.specs.Numbers.{rowSize, segmentColumn, fieldColumn, componentColumn, subcomponentColumn, repetitionsColumn, typeColumn, nextColumn, sureColumn, firstType, namedBy, firstField, firstNamer, leafOf, rowsWithin, begin, under}
 
 -- a row's place as one number: segment, field, component, subcomponent
 abbrev pub rankOf : List ℕ → ℕ
@@ -109,12 +110,12 @@ guides at (r ∷ rs) = leads at r rs && isSure r rs && guides (at + rowSize) rs
 abbrev pub numbers : List ℕ
 numbers = 1 ∷ 2 ∷ 3 ∷ 4 ∷ 5 ∷ 6 ∷ 7 ∷ 8 ∷ 9 ∷ 10 ∷ 11 ∷ 12 ∷ 13 ∷ 14 ∷ 15 ∷ 16 ∷ []
 
--- the rows after the index; under each number some begin and end among them, whole rows apart, and guide the reader through them
-abbrev pub behind : ℕ
-behind = noType + 2
+-- the rows after the lists; under each number some begin and end among them, whole rows apart, and guide the reader through them
+abbrev pub behind : List ℕ → ℕ
+behind table = begin table 1
 
 abbrev pub allRows : List ℕ → List (List ℕ)
-allRows table = rowsWithin behind (length table) table
+allRows table = rowsWithin (behind table) (length table) table
 
 -- rows of the segment, or of the type, with that number
 abbrev pub areOf : ℕ → List (List ℕ) → Bool
@@ -122,7 +123,7 @@ areOf k rs = every (λ (r : List ℕ). eqb (getD r segmentColumn 0) k) rs
 
 abbrev pub isWhole : ℕ → List ℕ → Bool
 isWhole k table =
-    eqb (begin table k) (behind + (begin table k - behind) / rowSize * rowSize)
+    eqb (begin table k) (behind table + (begin table k - behind table) / rowSize * rowSize)
     && leb (begin table k + rowSize) (begin table (suc k))
     && leb (begin table (suc k)) (length table)
     && areOf k (under k table)
@@ -138,3 +139,4 @@ pub record Ordered (rs : List (List ℕ)) : Type 0 where
 pub record Sound (table : List ℕ) : Type 0 where
   pub rows : Ordered (allRows table)
   pub index : every (λ (k : ℕ). isWhole k table) numbers ≡ true
+  pub lists : HasLists table

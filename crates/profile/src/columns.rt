@@ -1,4 +1,4 @@
-// The columns of a row in the machine's table, counted from where the row begins; specs/Numbers.antt reads them by the same names.
+// The columns of a row in the machine's table, counted from where the row begins; specs/Numbers.antt reads them by the same names. Where its lists stand.
 pub const FIELD: usize = 1;
 
 pub const COMPONENT: usize = 2;
@@ -28,3 +28,11 @@ pub const SURE: usize = 12;
 
 // How many numbers a row has.
 pub const ROW: usize = 13;
+
+// Where the lists begin in the table, and where it tells their end, which is the beginning of the first rows (specs/Codes.antt).
+pub const LISTS: usize = 18;
+
+pub const LISTS_END: usize = 1;
+
+// A code has at most so many bytes.
+pub const LONGEST_CODE: usize = 20;

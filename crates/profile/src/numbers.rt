@@ -1,4 +1,4 @@
-// What has a number in the machine's table: segments, types, lists and usages.
+// What has a number in the machine's table: segments, types and usages. A list's number is its place in 01's order, from 1.
 
 // The segments that 01 lists, by the numbers under which their rows stand; 0 is any other name.
 pub const UNLISTED: u16 = 0;
@@ -58,25 +58,5 @@ pub const CONDITIONAL: u16 = 2;
 // What a row says of a leaf that is required within a filled repetition.
 pub const STARRED: u16 = 1;
 
-// The lists of codes; 0 is no list.
+// The number of a leaf's list where it has none: any text will do.
 pub const ANY: u16 = 0;
-
-pub const MESSAGE_TYPES: u16 = 1;
-
-pub const EVENTS: u16 = 2;
-
-pub const PROCESSING_IDS: u16 = 3;
-
-pub const VERSIONS: u16 = 4;
-
-pub const SEXES: u16 = 5;
-
-pub const YES_NO: u16 = 6;
-
-pub const ORDER_CONTROLS: u16 = 7;
-
-pub const RESULT_STATUSES: u16 = 8;
-
-pub const VALUE_TYPES: u16 = 9;
-
-pub const OBSERVATION_STATUSES: u16 = 10;

@@ -8,10 +8,10 @@ ghost use Rattle.checks.specs.Place.{leafAt};
 ghost use Rattle.cutting.specs.FromField.{FieldsFrom};
 ghost use Rattle.reader.specs.Copied.{Stood, segmentText};
 use crate::standing::Standing;
-use codes::is_in_list;
+use codes::is_one_of;
 use cutting::fields_from;
 use cutting::leaf_text;
-use profile::numbers;
+use profile::processing_ids;
 use text::marks_of;
 
 // The segment's bytes: none where it is missing.
@@ -45,5 +45,6 @@ pub fn text_in<'a>(m: &'a [u8], s: Standing, field: u64, component: u64) -> &'a 
 pub fn is_processing_id(t: &[u8]) -> bool
     ensures { λ r. ⌜ r ≡ isOne (now (t .entry)) processing-ids ⌝ }
 {
-    is_in_list(numbers::PROCESSING_IDS, t)
+    let codes = processing_ids();
+    is_one_of(&codes, 0, codes.len(), t)
 }

@@ -11,7 +11,7 @@ returns : tie.Need-returns
 returns c =
     let o = c .before .before .before .before in
     let a = o .args in
-    lists-own (a .q) (a .table .now) (a .s .now) (a .k) (a .at) (a .end) (o .pre .1) (c .if1 .taken)
+    lists-own (a .q) (a .table .now) (a .s .now) (a .k) (a .at) (a .end) (o .pre .1) (o .pre .0 .0 .lists) (c .if1 .taken)
 
 cast-named-rows : tie.Need-cast-named-rows
 cast-named-rows c =

@@ -23,7 +23,7 @@ listed : (j : tie.Joined1)
 listed j =
     let o = j .before .before .before .before .before in
     let a = o .args in
-    ⊎-elim (λ w. rw (w .2) (w .1 .ensures)) (λ w. rw (w .1) (lists-own (a .q) (a .table .now) (a .s .now) (a .k) (a .at) (a .end) (o .pre .1 .0 .0) (w .0 .left))) (j .if1 .came)
+    ⊎-elim (λ w. rw (w .2) (w .1 .ensures)) (λ w. rw (w .1) (lists-own (a .q) (a .table .now) (a .s .now) (a .k) (a .at) (a .end) (o .pre .1 .0 .0) (o .pre .0 .0 .lists) (w .0 .left))) (j .if1 .came)
 
 flat-passes-requires : tie.Need-flat-passes-requires
 flat-passes-requires c κs =

@@ -15,7 +15,7 @@ rows-under-requires c κs =
 returns : tie.Need-returns
 returns c =
     let at = c .before .before .before .before in
-    type-lists (at .args .table .now) (at .args .name .now) (c .before .type-number .result) (c .rows-under .result) (c .before .type-number .ensures) (c .rows-under .ensures)
+    type-lists (at .args .table .now) (at .args .name .now) (c .before .type-number .result) (c .rows-under .result) (at .pre .lists) (c .before .type-number .ensures) (c .rows-under .ensures)
 
 pub type-rows-spec : {M : Type 1} → statement M
 type-rows-spec = tie.close (tie.spec (λ c κs. search needs) rows-under-requires returns)

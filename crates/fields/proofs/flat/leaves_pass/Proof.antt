@@ -84,15 +84,15 @@ takes-any-requires c κs =
     let i = c .before .before .before .before .before .before .before .before in
     omega (arith, i .before .loop .inv .inside, i .loop-test .taken)
 
-leaf-reason-requires : tie.Need-leaf-reason-requires Inv-loop μ-loop
-leaf-reason-requires c κs =
+plain-reason-requires : tie.Need-plain-reason-requires Inv-loop μ-loop
+plain-reason-requires c κs =
     let v = c .before .before .before in
     let n = v .before in
     let i = n .before .before .before .before .before .before in
     let l = i .before in
     let o = l .before .before .before .before in (
-      omega (arith, l .loop .inv .inside, i .loop-test .taken),
-      (reading-reason (l .loop .inv) (i .loop-test .taken), λ e. flat-good (l .loop .inv) (i .loop-test .taken) (o .pre .1) (n .if2 .left) (v .advance .ensures)),
+      (omega (arith, l .loop .inv .inside, i .loop-test .taken), o .pre .0 .codes),
+      reading-reason (l .loop .inv) (i .loop-test .taken),
     )
 
 add-at : tie.Need-add-at Inv-loop μ-loop
@@ -112,11 +112,12 @@ loop-again c =
     let l = i .before in
     let o = l .before .before .before .before in
     let x = within (v .advance .result .start) (v .advance .result .end) (o .args .s .now) in
+    let good = flat-good (l .loop .inv) (i .loop-test .taken) (o .pre .1) (n .if2 .left) (v .advance .ensures) in
     ⊎-elim
-    (λ w. flat-on (l .loop .inv) (i .loop-test .taken) (o .pre .1) (n .if2 .left) (v .advance .ensures) (w .1 .ensures) (w .2 .left))
+    (λ w. flat-on (l .loop .inv) (i .loop-test .taken) (o .pre .1) (n .if2 .left) (v .advance .ensures) (w .1 .ensures (o .args .q) (λ h. good)) (w .2 .left))
     (λ w.
     flat-on (l .loop .inv) (i .loop-test .taken) (o .pre .1) (n .if2 .left) (v .advance .ensures) {r = 0}
-    (k .takes-any .ensures (not-false _ (w .left)) (o .args .q) x refl (flat-good (l .loop .inv) (i .loop-test .taken) (o .pre .1) (n .if2 .left) (v .advance .ensures)))
+    (k .takes-any .ensures (not-false _ (w .left)) (o .args .q) x refl good)
     refl)
     (c .if3 .came)
 
@@ -147,7 +148,7 @@ leaves-pass-spec =
     sub-leaf
     part-leaf-end
     takes-any-requires
-    leaf-reason-requires
+    plain-reason-requires
     (λ c e. not-true e)
     add-at
     loop-less

@@ -55,13 +55,13 @@ sub-leaf c = cursor-inside _ _ _ (c .first-piece .ensures .0) .0
 part-leaf-end : tie.Need-part-leaf-end
 part-leaf-end c = cursor-inside _ _ _ (c .first-piece .ensures .0) .1
 
-leaf-reason-requires : tie.Need-leaf-reason-requires
-leaf-reason-requires c κs =
+plain-reason-requires : tie.Need-plain-reason-requires
+plain-reason-requires c κs =
     let f = c .before .before in
     let o = f .before .before .before .before .before .before in
     let w = o .pre .0 .0 in (
-      omega (arith, w .some, w .inside),
-      (reading-reason (here f) (more f), λ e. flat-good (here f) (more f) (o .pre .0 .1) (columns f .1) (moved f)),
+      (omega (arith, w .some, w .inside), w .codes),
+      reading-reason (here f) (more f),
     )
 
 returns-3 : tie.Need-returns-3
@@ -69,11 +69,12 @@ returns-3 c e =
     let f = c .before .before .before in
     let o = f .before .before .before .before .before .before in
     let a = o .args in
-    let r = c .leaf-reason .result in
+    let r = c .plain-reason .result in
     let text = within (f .first-piece .result .start) (f .first-piece .result .end) (a .s .now) in
     let some : ltb 0 (length text) ≡ true = lt-ltb 0 (length text) (omega (arith, c .before .if2 .left)) in
     let last : a .rows .end - (a .rows .start + rowSize) < rowSize = omega (arith, o .pre .1) in
-    rw some at (reading-none (flat-on (here f) (more f) (o .pre .0 .1) (columns f .1) (moved f) {r = r} (c .leaf-reason .ensures) (eqb-true r 0 e)) last)
+    rw some at (reading-none (flat-on (here f) (more f) (o .pre .0 .1) (columns f .1) (moved f) {r = r}
+    (c .plain-reason .ensures (a .q) (λ h. flat-good (here f) (more f) (o .pre .0 .1) (columns f .1) (moved f))) (eqb-true r 0 e)) last)
 
 pub one-leaf-passes-spec : {M : Type 1} → statement M
 one-leaf-passes-spec =
@@ -91,5 +92,5 @@ one-leaf-passes-spec =
     sub-leaf
     part-leaf-end
     (λ c e. not-true e)
-    leaf-reason-requires
+    plain-reason-requires
     returns-3)

@@ -5,7 +5,6 @@ use native.Mathlib.Omega.{arith}
 use mathlib.Core.Logic.{⊎-elim}
 use lib.ListN.{getD}
 use Rattle.profile.specs.Numbers.{componentColumn, subcomponentColumn}
-use Rattle.text.proofs.Tests.{not-true}
 use Rattle.cursor.proofs.Moving.{cursor-inside}
 use Rattle.leaves.proofs.LeafByLeaf.{Reading, reading-first, reading-number, reading-reason, reading-missing, reading-broken, reading-judged, reading-passed, reading-none, piece-inside}
 use Rattle.leaves.proofs.repetition.read_repetition.Statement.{statement}
@@ -106,7 +105,7 @@ part-leaf-reason-end c =
 leaf-reason-requires : tie.Need-leaf-reason-requires Inv-loop μ-loop
 leaf-reason-requires c κs =
     let i = c .before .before .before .before .before .before .before .before .before .before .before .before in
-    (omega (arith, i .before .loop .inv .inside, i .loop-test .taken), (reading-reason (i .before .loop .inv) (i .loop-test .taken), λ e. not-true e))
+    ((omega (arith, i .before .loop .inv .inside, i .loop-test .taken), i .before .before .before .before .before .pre .codes), reading-reason (i .before .loop .inv) (i .loop-test .taken))
 
 add-at : tie.Need-add-at Inv-loop μ-loop
 add-at c =

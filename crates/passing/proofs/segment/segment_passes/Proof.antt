@@ -95,9 +95,17 @@ there v =
     let b = l .before .before .before in
     text-there (l .loop .inv) (here d) (b .fields-before .ensures) (v .advance .ensures) (b .before .before .before .before .fields-start .ensures) refl
 
+mul-usage : tie.Need-mul-usage Inv-loop μ-loop
+mul-usage c =
+    let d = c .before .before .before in
+    omega (arith, ahead-row (here d), d .before .before .before .before .before .before .before .before .before .before .before .before .good)
+
+shared-slice-read-usage : tie.Need-shared-slice-read-usage Inv-loop μ-loop
+shared-slice-read-usage c = omega (arith, ahead-row (here (c .before .before .before .before)))
+
 may-be-empty-requires : tie.Need-may-be-empty-requires Inv-loop μ-loop
 may-be-empty-requires c κs =
-    let v = c .before in
+    let v = c .before .before .before in
     let d = v .before .before in
     (d .before .before .before .before .before .before .before .before .before .before .before .before .pre, ahead-row (here d))
 
@@ -113,7 +121,7 @@ text-passes-requires c κs =
     let a = f .before .before .before .args in
     let table = there v in
     let x = within (f .fields-start .result) (length (a .s .now)) (a .s .now) in
-    let b = both (y .is-flat .result) (ltb (length x) 256) (not-false _ (c .before .if4 .left)) in (
+    let b = both (y .is-flat .result) (ltb (length x) 256) (not-false _ (c .before .if5 .left)) in (
       f .before .before .before .pre,
       ((table .rows, table .text), flat-within (a .q) (v .advance .result .start) (v .advance .result .end) x (sym (y .is-flat .ensures) ∙ b .0)),
     )
@@ -121,20 +129,31 @@ text-passes-requires c κs =
 loop-again : tie.Need-loop-again Inv-loop μ-loop
 loop-again c =
     let m = c .before in
-    let v = m .before .before in
+    let e = m .before .before .before in
+    let v = e .before in
     let d = v .before .before in
     let l = d .before .before in
     reading-on (l .loop .inv) (here d) (l .before .before .before .fields-before .ensures) (v .advance .ensures) (atRepetition 0 0 0)
-    (none-passes (there v) (text-none _ _ _ (m .before .if2 .taken)) (m .may-be-empty .ensures (not-false _ (c .if3 .left)))) refl
+    (none-passes (there v) (text-none _ _ _ (e .if2 .taken)) (m .may-be-empty .ensures (not-false _ (c .if4 .left)))) refl
 
+-- a field that is optional
 loop-again-2 : tie.Need-loop-again-2 Inv-loop μ-loop
 loop-again-2 c =
+    let e = c .before .before in
+    let v = e .before in
+    let d = v .before .before in
+    let l = d .before .before in
+    reading-on (l .loop .inv) (here d) (l .before .before .before .fields-before .ensures) (v .advance .ensures) (atRepetition 0 0 0)
+    (none-passes (there v) (text-none _ _ _ (e .if2 .taken)) (rw (c .if3 .left))) refl
+
+loop-again-3 : tie.Need-loop-again-3 Inv-loop μ-loop
+loop-again-3 c =
     let p = c .before in
     let v = p .before .before .before .before in
     let d = v .before .before in
     let l = d .before .before in
     reading-on (l .loop .inv) (here d) (l .before .before .before .fields-before .ensures) (v .advance .ensures) (atRepetition 0 0 0)
-    (p .text-passes .ensures (not-false _ (c .if5 .left))) refl
+    (p .text-passes .ensures (not-false _ (c .if6 .left))) refl
 
 pub segment-passes-spec : {M : Type 1} → statement M
 segment-passes-spec =
@@ -161,6 +180,9 @@ segment-passes-spec =
     cast-number
     sub-advance
     advance-requires
+    (λ c. search needs)
+    mul-usage
+    shared-slice-read-usage
     may-be-empty-requires
     (λ c e. not-true e)
     (λ c e. not-true e)
@@ -169,8 +191,10 @@ segment-passes-spec =
     part-text-passes-end
     text-passes-requires
     (λ c e. not-true e)
-    (λ c. ahead-falls (here (c .before .before .before .before .before)))
-    loop-again
     (λ c. ahead-falls (here (c .before .before .before .before .before .before .before)))
+    loop-again
+    (λ c. ahead-falls (here (c .before .before .before .before .before)))
     loop-again-2
+    (λ c. ahead-falls (here (c .before .before .before .before .before .before .before)))
+    loop-again-3
     (λ c e. reading-none (c .before .loop .inv) (c .loop-test .left)))

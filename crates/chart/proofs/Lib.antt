@@ -1,0 +1,4 @@
+pub mod Room
+pub mod CodeByCode
+pub mod Lines
+pub mod RowLines
