@@ -42,7 +42,9 @@ fn put_code(out: &mut [u8], at: usize, table: &[u16], from: usize, to: usize) ->
 fn put_codes(out: &mut [u8], at: usize, table: &[u16], start: usize, end: usize) -> usize
     requires { ⌜ (end ≤ length (now table)) × (areCodes (within start end (now table)) ≡ true) ⌝ }
     requires { ⌜ at + length (led (byte " ") (codesFrom (within start end (now table)))) ≤ length (now out) ⌝ }
-    ensures { λ r. ⌜ Puts (now (out .entry)) at (led (byte " ") (codesFrom (within start end (now (table .entry))))) (now (out .exit)) r ⌝ }
+    ensures { λ r. ⌜ Puts (now (out .entry)) at
+        (led (byte " ") (codesFrom (within start end (now (table .entry)))))
+        (now (out .exit)) r ⌝ }
 {
     let mut to = at;
     let mut i = start;
@@ -65,7 +67,9 @@ fn put_place(
 ) -> usize
     requires { ⌜ row + rowSize ≤ length (now table) ⌝ }
     requires { ⌜ at + length (placeText (rowCharted (now segment) alone (drop row (now table)))) ≤ length (now out) ⌝ }
-    ensures { λ r. ⌜ Puts (now (out .entry)) at (placeText (rowCharted (now (segment .entry)) alone (drop row (now (table .entry))))) (now (out .exit)) r ⌝ }
+    ensures { λ r. ⌜ Puts (now (out .entry)) at
+        (placeText (rowCharted (now (segment .entry)) alone (drop row (now (table .entry)))))
+        (now (out .exit)) r ⌝ }
 {
     let a = put(out, at, segment);
     let b = put(out, a, b"-");
@@ -101,7 +105,9 @@ fn put_line(
     requires { ⌜ (row + rowSize ≤ length (now table)) × HasLists (now table) ⌝ }
     requires { ⌜ getD (drop row (now table)) reasonColumn 0 < 256 ⌝ }
     requires { ⌜ at + length (rowLine (now segment) alone (drop row (now table))) ≤ length (now out) ⌝ }
-    ensures { λ r. ⌜ Puts (now (out .entry)) at (rowLine (now (segment .entry)) alone (drop row (now (table .entry)))) (now (out .exit)) r ⌝ }
+    ensures { λ r. ⌜ Puts (now (out .entry)) at
+        (rowLine (now (segment .entry)) alone (drop row (now (table .entry))))
+        (now (out .exit)) r ⌝ }
 {
     let end = table[columns::LISTS_END] as usize;
     let lists = &table[columns::LISTS..end];
@@ -114,7 +120,8 @@ fn put_line(
 
 // Whether a list of that place is asked for: field 0 for every list, component 0 for every component.
 fn is_asked(name: &[u8], field: u64, component: u64, segment: &[u8], f: u64, c: u64) -> bool
-    ensures { λ r. ⌜ r ≡ (eqb field 0 || (same (now (name .entry)) (now (segment .entry)) && eqb field f && (eqb component 0 || eqb component c))) ⌝ }
+    ensures { λ r. ⌜ r ≡ (eqb field 0
+        || (same (now (name .entry)) (now (segment .entry)) && eqb field f && (eqb component 0 || eqb component c))) ⌝ }
 {
     (field == 0) | (is_same(name, segment) & (field == f) & ((component == 0) | (component == c)))
 }
@@ -133,8 +140,12 @@ pub fn put_row(
 ) -> usize
     requires { ⌜ (row + rowSize ≤ length (now table)) × HasLists (now table) ⌝ }
     requires { ⌜ (getD (drop row (now table)) typeColumn 0 < 10 → reasonFits (leafOf (drop row (now table)) .list) ≡ true) ⌝ }
-    requires { ⌜ at + length (rowLines (now name) field component (now segment) alone (drop row (now table))) ≤ length (now out) ⌝ }
-    ensures { λ r. ⌜ Puts (now (out .entry)) at (rowLines (now (name .entry)) field component (now (segment .entry)) alone (drop row (now (table .entry)))) (now (out .exit)) r ⌝ }
+    requires { ⌜ at + length
+        (rowLines (now name) field component (now segment) alone (drop row (now table)))
+        ≤ length (now out) ⌝ }
+    ensures { λ r. ⌜ Puts (now (out .entry)) at
+        (rowLines (now (name .entry)) field component (now (segment .entry)) alone (drop row (now (table .entry))))
+        (now (out .exit)) r ⌝ }
 {
     if (table[row + columns::LIST] == numbers::ANY)
         | (numbers::NAMED_BY <= table[row + columns::TYPE])

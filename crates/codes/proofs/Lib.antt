@@ -1,5 +1,7 @@
 pub mod Numbered
 pub mod Spelled
+pub mod Walked
+pub mod ListNumbers
 pub mod RowSteps
 pub mod Stretch
 pub mod Ascending

@@ -12,7 +12,7 @@ use Rattle.text.specs.Bytes.{every}
 use Rattle.text.proofs.Tests.{both}
 use Rattle.text.proofs.Lists.{and-both}
 use Rattle.profile.specs.Numbers.{rowsFrom, rowsWithin, begin, under, rowSize, noType}
-use Rattle.codes.proofs.Spelled.{lists-inside}
+use Rattle.codes.proofs.ListNumbers.{lists-inside}
 use Rattle.profile.specs.Order.{areOf, rankOf, rising, rises, isNamed, sameField, alone, behind, isWhole, Ordered, Sound, guides}
 use Rattle.codes.specs.Inner.{Under}
 use Rattle.codes.proofs.RowSteps.{rows-cut, rows-sooner}

@@ -1,4 +1,5 @@
-// The page of the lists of codes: the lines of every row that has a list, segment by segment. Inner: the callers hold the table's rule, and lend room.
+// The page of the lists of codes: the lines of every row that has a list, segment by segment.
+// Inner: the callers hold the table's rule, and lend room.
 ghost use mathlib.Core.Path.{_≡_};
 ghost use Prim.Native.Nat.{ℕ, _+_, _≤_};
 ghost use lib.ListN.{length};
@@ -29,8 +30,12 @@ fn put_field(
     component: u64,
 ) -> usize
     requires { ⌜ HasLists (now table) × ((k : ℕ) × IsField (now table) k first next) ⌝ }
-    requires { ⌜ at + length (askedLines (now name) field component (fieldLists (now segment) (ruleAt (now table) first next))) ≤ length (now out) ⌝ }
-    ensures { λ r. ⌜ Puts (now (out .entry)) at (askedLines (now (name .entry)) field component (fieldLists (now (segment .entry)) (ruleAt (now (table .entry)) first next))) (now (out .exit)) r ⌝ }
+    requires { ⌜ at + length
+        (askedLines (now name) field component (fieldLists (now segment) (ruleAt (now table) first next)))
+        ≤ length (now out) ⌝ }
+    ensures { λ r. ⌜ Puts (now (out .entry)) at
+        (askedLines (now (name .entry)) field component (fieldLists (now (segment .entry)) (ruleAt (now (table .entry)) first next)))
+        (now (out .exit)) r ⌝ }
 {
     let alone = next - first < 2 * columns::ROW;
     let mut to = at;
@@ -53,8 +58,12 @@ fn put_segment(
     component: u64,
 ) -> usize
     requires { ⌜ Sound (now table) × (length (now segment) ≡ 3) ⌝ }
-    requires { ⌜ at + length (askedLines (now name) field component (segmentLists (tableOf (now table)) (now segment))) ≤ length (now out) ⌝ }
-    ensures { λ r. ⌜ Puts (now (out .entry)) at (askedLines (now (name .entry)) field component (segmentLists (tableOf (now (table .entry))) (now (segment .entry)))) (now (out .exit)) r ⌝ }
+    requires { ⌜ at + length
+        (askedLines (now name) field component (segmentLists (tableOf (now table)) (now segment)))
+        ≤ length (now out) ⌝ }
+    ensures { λ r. ⌜ Puts (now (out .entry)) at
+        (askedLines (now (name .entry)) field component (segmentLists (tableOf (now (table .entry))) (now (segment .entry))))
+        (now (out .exit)) r ⌝ }
 {
     let k = segment_number(segment[0], segment[1], segment[2]);
     if k == 0 {
@@ -76,7 +85,9 @@ fn put_segment(
 pub fn put_lists(out: &mut [u8], table: &[u16], name: &[u8], field: u64, component: u64) -> usize
     requires { ⌜ Sound (now table) × AreTable (now table) profile01 ⌝ }
     requires { ⌜ length (askedLines (now name) field component (charted profile01)) ≤ length (now out) ⌝ }
-    ensures { λ r. ⌜ Puts (now (out .entry)) 0 (askedLines (now (name .entry)) field component (charted profile01)) (now (out .exit)) r ⌝ }
+    ensures { λ r. ⌜ Puts (now (out .entry)) 0
+        (askedLines (now (name .entry)) field component (charted profile01))
+        (now (out .exit)) r ⌝ }
 {
     let a = put_segment(out, 0, b"MSH", table, name, field, component);
     let b = put_segment(out, a, b"PID", table, name, field, component);

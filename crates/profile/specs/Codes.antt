@@ -69,7 +69,7 @@ pub record AreLists (lists : List ℕ) : Type 0 where
   pub whole : areWholeLists 1 (listCount lists) lists ≡ true
   pub are : listsFrom 1 (listCount lists) lists ≡ codeLists
 
--- where they stand in a table: after the index of the rows, and withFirst the first rows
+-- where they stand in a table: after the index of the rows, and before the first rows
 abbrev pub listsBegin : ℕ
 listsBegin = noType + 2
 

@@ -5,7 +5,7 @@ use lib.ListN.{length}
 use lib.Seq.{getD-drop}
 use Rattle.profile.specs.Numbers.{begin, reasonColumn}
 use Rattle.profile.specs.Codes.{listsBegin}
-use Rattle.codes.proofs.Spelled.{lists-inside}
+use Rattle.codes.proofs.ListNumbers.{lists-inside}
 use Rattle.chart.proofs.Lines.{row-length, row-puts}
 use borrow.Author.Needs.{needs}
 use Rattle.chart.proofs.row.put_line.Statement.{statement}

@@ -5,7 +5,7 @@ use native.Mathlib.Omega.{arith}
 use borrow.Author.Needs.{needs}
 use lib.ListN.{length, drop}
 use Rattle.text.specs.Bytes.{same, within}
-use Rattle.codes.proofs.Spelled.{follows-on, follows-not, follows-end}
+use Rattle.codes.proofs.Walked.{follows-on, follows-not, follows-end}
 use Rattle.codes.proofs.lists.follows.Statement.{statement}
 use Rattle.codes.proofs.lists.follows.Tie as tie
 

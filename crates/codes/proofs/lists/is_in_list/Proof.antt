@@ -1,7 +1,7 @@
 -- `is_in_list`: the codes of the list with that number decide.
 use mathlib.Core.Path.{_∙_}
 use borrow.Author.Needs.{needs}
-use Rattle.codes.proofs.Spelled.{in-list}
+use Rattle.codes.proofs.ListNumbers.{in-list}
 use Rattle.codes.proofs.lists.is_in_list.Statement.{statement}
 use Rattle.codes.proofs.lists.is_in_list.Tie as tie
 

@@ -12,7 +12,7 @@ use borrow.Author.Needs.{needs}
 use lib.ListN.{length}
 use Rattle.text.specs.Bytes.{isOne, within}
 use Rattle.profile.specs.Codes.{codesFrom, areCodes}
-use Rattle.codes.proofs.Spelled.{none-fits, walk-on, walk-found, walk-past, walk-other, walk-end}
+use Rattle.codes.proofs.Walked.{none-fits, walk-on, walk-found, walk-past, walk-other, walk-end}
 use Rattle.codes.proofs.lists.is_one_of.Statement.{statement}
 use Rattle.codes.proofs.lists.is_one_of.Tie as tie
 use Rattle.codes.proofs.lists.follows.Reads as follows-reads

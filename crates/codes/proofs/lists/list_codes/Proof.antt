@@ -10,7 +10,7 @@ use Rattle.profile.specs.Codes.{listCount}
 use Rattle.codes.proofs.Numbered.{not-zero}
 use native.Mathlib.Omega.{arith}
 use borrow.Author.Needs.{needs}
-use Rattle.codes.proofs.Spelled.{index-inside, codes-listed, no-codes}
+use Rattle.codes.proofs.ListNumbers.{index-inside, codes-listed, no-codes}
 use Rattle.codes.proofs.lists.list_codes.Statement.{statement}
 use Rattle.codes.proofs.lists.list_codes.Tie as tie
 

@@ -7,7 +7,7 @@ use Prim.Native.Nat.{_+_, _≤_, _<_}
 use lib.ListN.{length}
 use Rattle.profile.specs.Numbers.{limitColumn, begin}
 use Rattle.profile.specs.Codes.{listsBegin}
-use Rattle.codes.proofs.Spelled.{lists-inside}
+use Rattle.codes.proofs.ListNumbers.{lists-inside}
 use Rattle.leaves.proofs.LeafRule.{row-reason, rule-missing, rule-empty, rule-long, plain-good, rule-type, rule-list, rule-good}
 use Rattle.leaves.proofs.rule.plain_reason.Statement.{statement}
 use Rattle.leaves.proofs.rule.plain_reason.Tie as tie
