@@ -54,6 +54,8 @@ OTHER = [
     ("500 results with two repetitions in OBX-8", M + b"OBX|1|NM|45222-7^C4-DC^LN||3.16|umol/L|1-2|N~H|||F\r" * 499),
     ("500 results with `&` in a field that is not listed", M + b"OBX|1|NM|45222-7^C4-DC^LN||3.16|umol/L|||||F||||LAB&X\r" * 499),
     ("500 results with the last code of its list in OBX-11", M + RESULT.replace(b"|F\r", b"|X\r") * 499),
+    ("500 results with a date in OBX-14", M + RESULT.replace(b"|F\r", b"|F|||20240304101500\r") * 499),
+    ("500 results with 29 February in OBX-14", M + RESULT.replace(b"|F\r", b"|F|||20240229101500\r") * 499),
     ("150 results of 300 letters", M + (b"OBX|1|TX|45222-7^C4-DC^LN||" + b"x" * 300 + b"|umol/L|||||F\r") * 149),
     (
         "300 results with long names and units",

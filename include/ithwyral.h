@@ -50,7 +50,7 @@ enum ithwyral_refusal {
     ITHWYRAL_TOO_MANY = 8,           /* there are more than 512 segments */
     ITHWYRAL_BAD_PLACE = 9,          /* no place can have that name or those numbers */
     ITHWYRAL_NO_SEGMENT = 10,        /* the message has fewer segments of that name */
-    ITHWYRAL_BAD_STAMP = 11,         /* the stamp is not 14 digits that form a date and time */
+    ITHWYRAL_BAD_STAMP = 11,         /* the stamp is not 14 digits that form a date and time, or there is no such day */
     ITHWYRAL_BAD_REPLY_NUMBER = 12,  /* the reply number is not 1 to 20 capitals or digits */
     ITHWYRAL_NO_CONTROL_NUMBER = 13, /* MSH-10 of the message is empty, over 20 bytes or has a bad escape */
     ITHWYRAL_NO_ROOM = 14,           /* the lent buffer is too short */
@@ -62,9 +62,17 @@ enum ithwyral_refusal {
     ITHWYRAL_BAD_ESCAPE = 20         /* a backslash begins none of the five escapes */
 };
 
-/* Where the numbers stand in `out` of ithwyral_judge. */
+/*
+ * Where the numbers stand in `out` of ithwyral_judge. The reasons are:
+ *
+ *      1  a segment out of place               2  the message may not end there
+ *      3  a required field or leaf is missing  4  too many repetitions
+ *      5  too long                             6  a bad escape
+ *      7  not of its type                     13  no such day: a date in the form, whose month does not have its day
+ *      8  not in its list, but for MSH-9.1 (9), MSH-9.2 (10), MSH-11.1 (11) and MSH-12.1 (12)
+ */
 enum {
-    ITHWYRAL_REASON = 0,    /* 0: accepted; 1 to 12: why not */
+    ITHWYRAL_REASON = 0,    /* 0: accepted; 1 to 13: why not */
     ITHWYRAL_CONDITION = 1, /* the reason's condition code, 100 to 103 or 200 to 203; 0: there is no reason */
     ITHWYRAL_NAME = 2,      /* three numbers, each a byte of the segment's name */
     ITHWYRAL_OCCURRENCE = 5,

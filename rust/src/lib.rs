@@ -79,7 +79,9 @@ pub struct Fault {
     pub place: Place,
     /// The condition code of its reason, 100 to 103 or 200 to 203.
     pub condition: u64,
-    /// Why it is one, 1 to 12.
+    /// Why it is one, 1 to 13: 1 a segment out of place, 2 the message may not end there, 3 a required field or leaf is missing, 4 too many repetitions,
+    /// 5 too long, 6 a bad escape, 7 not of its type, 13 no such day (a date in the form, whose month does not have its day), 8 not in its list, but for
+    /// MSH-9.1 (9), MSH-9.2 (10), MSH-11.1 (11) and MSH-12.1 (12).
     pub reason: u64,
 }
 

@@ -28,7 +28,7 @@ pub enum Refusal {
     BadPlace = 9,
     /// The message has fewer segments of that name.
     NoSegment = 10,
-    /// The stamp is not 14 digits that form a date and time.
+    /// The stamp is not 14 digits that form a date and time, or there is no such day.
     BadStamp = 11,
     /// The reply number is not 1 to 20 capitals or digits.
     BadReplyNumber = 12,

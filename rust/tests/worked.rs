@@ -97,6 +97,21 @@ fn p8_has_no_control_number() {
 }
 
 #[test]
+fn a_day_must_exist() {
+    assert_eq!(
+        line(&changed("20240301", "20240230")),
+        "fault PID 1 7 1 1 1 102 13"
+    );
+    assert_eq!(line(&changed("20240301", "20240229")), "accepted");
+    let mut buffer = [b'.'; LONGEST_REPLY];
+    assert_eq!(
+        reply(M.as_bytes(), b"20230229101501", b"K1", &mut buffer),
+        Err(Refusal::BadStamp)
+    );
+    assert_eq!(buffer, [b'.'; LONGEST_REPLY]);
+}
+
+#[test]
 fn p9_has_no_end() {
     assert_eq!(line(&M.as_bytes()[..M.len() - 1]), "refused 5");
 }

@@ -35,7 +35,9 @@ impl Place {
     }
 }
 
-/// Why something is a fault; the discriminant is document 01's number.
+/// Why something is a fault; the discriminant is the number a caller is told.
+/// [`NoSuchDay`](Reason::NoSuchDay) has the highest one, though it is tested
+/// before the lists.
 #[derive(Clone, Copy, Debug, PartialEq, Eq)]
 #[repr(u8)]
 pub enum Reason {
@@ -63,10 +65,12 @@ pub enum Reason {
     ProcessingId = 11,
     /// MSH-12.1 not in its list.
     VersionId = 12,
+    /// A leaf of the form of a DTM whose day isn't in its month.
+    NoSuchDay = 13,
 }
 
 impl Reason {
-    /// The number of document 01.
+    /// The number that a caller is told.
     pub fn number(self) -> u8 {
         self as u8
     }
@@ -79,7 +83,8 @@ impl Reason {
             Reason::TooManyRepetitions
             | Reason::TooLong
             | Reason::BadEscape
-            | Reason::NotOfType => 102,
+            | Reason::NotOfType
+            | Reason::NoSuchDay => 102,
             Reason::NotInList => 103,
             Reason::MessageType => 200,
             Reason::EventCode => 201,

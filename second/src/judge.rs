@@ -239,6 +239,9 @@ fn judge_leaf(rule: &LeafRule, leaf: &[u8]) -> Result<(), Reason> {
     if !rule.simple.admits(leaf) {
         return Err(Reason::NotOfType);
     }
+    if rule.simple.names_no_such_day(leaf) {
+        return Err(Reason::NoSuchDay);
+    }
     match rule.list {
         Some(list) if !list.holds(leaf) => Err(list.reason()),
         _ => Ok(()),

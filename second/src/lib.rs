@@ -1,4 +1,5 @@
-//! A second, independent reading of document 01.
+//! A second, independent reading of document 01, and of the rule since added
+//! to it that the day of a DTM and of a stamp must be in its month.
 //!
 //! A message is looked at in three steps: [`check`] tests its frame,
 //! [`judge()`] walks the listed segments for the first fault, and [`look_up`],
@@ -10,7 +11,8 @@
 //! - [`fault`]: the place of a fault, its reason and its condition code
 //! - [`separators`]: the five separators, and the header that names them
 //! - [`escape`]: the five escapes, judged and resolved
-//! - [`types`]: the simple types, their limits and forms
+//! - [`calendar`]: which days a month has
+//! - [`types`]: the simple types, their limits and forms, and the day of a DTM
 //! - [`profile`]: the listed segments, fields and leaves, the lists, the
 //!   succession
 //! - [`parts`]: a segment taken apart, field by field and leaf by leaf
@@ -26,6 +28,7 @@
 #![forbid(unsafe_code)]
 #![warn(missing_docs)]
 
+pub mod calendar;
 pub mod calls;
 pub mod escape;
 pub mod fault;

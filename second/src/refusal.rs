@@ -24,7 +24,8 @@ pub enum Refusal {
     BadPlace = 9,
     /// Fewer segments of the asked name.
     NoSegment = 10,
-    /// The stamp isn't 14 digits that form a DTM.
+    /// The stamp isn't 14 digits that form a DTM, or its month doesn't have
+    /// its day.
     BadStamp = 11,
     /// The reply number isn't 1..20 capitals or digits.
     BadReplyNumber = 12,

@@ -52,7 +52,10 @@ pub fn reply(
 }
 
 fn is_stamp(stamp: &[u8]) -> bool {
-    stamp.len() == STAMP_BYTES && types::is_digits(stamp) && types::is_date_time(stamp)
+    stamp.len() == STAMP_BYTES
+        && types::is_digits(stamp)
+        && types::is_date_time(stamp)
+        && !types::names_no_such_day(stamp)
 }
 
 fn is_reply_number(number: &[u8]) -> bool {

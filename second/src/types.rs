@@ -1,6 +1,8 @@
-//! The simple types and the forms their values take.
+//! The simple types, the forms their values take, and whether a DTM's day exists.
 
 use std::ops::RangeInclusive;
+
+use crate::calendar;
 
 /// A simple type.
 #[derive(Clone, Copy, Debug, PartialEq, Eq)]
@@ -48,6 +50,12 @@ impl Simple {
             Simple::Id | Simple::Is | Simple::St | Simple::Tx | Simple::Ft => true,
         }
     }
+
+    /// Whether a leaf that has the form of this type names a day that there
+    /// isn't. No other type than DTM names days.
+    pub fn names_no_such_day(self, text: &[u8]) -> bool {
+        self == Simple::Dtm && names_no_such_day(text)
+    }
 }
 
 /// At least one digit, and nothing else.
@@ -75,6 +83,26 @@ pub fn is_date_time(text: &[u8]) -> bool {
         Some(year) => is_digits(year) && is_pairs_and_zone(&text[4..], &CALENDAR_AND_CLOCK),
         None => false,
     }
+}
+
+/// Whether a text of the form of a DTM names a day that its month doesn't
+/// have. One that stops before the day names none.
+pub fn names_no_such_day(text: &[u8]) -> bool {
+    // Only a year, a month and a day make eight digits at the front: those of
+    // a zone come after its sign.
+    match text.get(..8) {
+        Some(date) if is_digits(date) => {
+            let (year, month, day) = (&date[..4], &date[4..6], &date[6..]);
+            !calendar::has_day(value(year), value(month), value(day))
+        }
+        _ => false,
+    }
+}
+
+/// The number that a few digits write.
+fn value(digits: &[u8]) -> u32 {
+    let digits = digits.iter().map(|digit| u32::from(digit - b'0'));
+    digits.fold(0, |so_far, digit| so_far * 10 + digit)
 }
 
 /// `HH[MM[SS[.S[S[S[S]]]]]]`, then optionally a zone.

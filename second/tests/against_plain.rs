@@ -4,6 +4,7 @@
 mod common;
 use common::*;
 use second::profile::{value_leaves, Field, LeafRule, Listed, Usage};
+use second::types::Simple;
 use second::{look_up, strike, Asked, Found, Reason, Verdict};
 
 fn parts(text: &str, separator: char) -> Vec<&str> {
@@ -58,6 +59,29 @@ fn bad_escape(text: &str) -> bool {
     }
 }
 
+/// A year is a leap year if it can be divided by one of these or by all, not
+/// if by two.
+fn is_leap(year: &str) -> bool {
+    let year: u32 = year.parse().unwrap();
+    let divisors = [4, 100, 400];
+    divisors.iter().filter(|&&by| year % by == 0).count() % 2 == 1
+}
+
+fn no_such_day(text: &str) -> bool {
+    match text.get(..8) {
+        Some(date) if date.bytes().all(|byte| byte.is_ascii_digit()) => {
+            let last = match &date[4..6] {
+                "02" if is_leap(&date[..4]) => "29",
+                "02" => "28",
+                "04" | "06" | "09" | "11" => "30",
+                _ => "31",
+            };
+            &date[6..] > last
+        }
+        _ => false,
+    }
+}
+
 fn leaf_reason(text: &str, rule: &LeafRule) -> Option<Reason> {
     match rule.list {
         _ if text.is_empty() && rule.starred => Some(Reason::Missing),
@@ -65,6 +89,7 @@ fn leaf_reason(text: &str, rule: &LeafRule) -> Option<Reason> {
         _ if text.len() > rule.limit => Some(Reason::TooLong),
         _ if bad_escape(text) => Some(Reason::BadEscape),
         _ if !rule.simple.admits(text.as_bytes()) => Some(Reason::NotOfType),
+        _ if rule.simple == Simple::Dtm && no_such_day(text) => Some(Reason::NoSuchDay),
         Some(list) if !list.holds(text.as_bytes()) => Some(list.reason()),
         _ => None,
     }
@@ -226,6 +251,44 @@ fn the_judge_agrees_with_a_plain_one() {
         seen.insert(verdict);
     }
     assert!(seen.len() > 200, "{} kinds of answer", seen.len());
+}
+
+/// A date about the end of a month, and what may or may not follow a day.
+fn near_date(numbers: &mut Numbers) -> String {
+    let years = [0, 4, 100, 400, 1900, 2000, 2023, 2024, 2100, 2400, 9999];
+    let months = [1, 2, 2, 2, 2, 2, 4, 6, 8, 9, 11, 12, 13];
+    let tails = ["", "", "23", "235959.5", "+0100", "2359-0500", "24", "x"];
+    format!(
+        "{:04}{:02}{:02}{}",
+        years[numbers.below(years.len())],
+        months[numbers.below(months.len())],
+        27 + numbers.below(6),
+        tails[numbers.below(tails.len())]
+    )
+}
+
+#[test]
+fn the_judge_agrees_with_a_plain_one_about_days() {
+    let mut numbers = Numbers(13);
+    let mut seen = std::collections::BTreeMap::new();
+    for _ in 0..20_000 {
+        let (two, five) = [("ST", "2024"), ("DTM", "2024"), ("DTM", "")][numbers.below(3)];
+        let mut segments = [MSH, PID, OBR, &set(&set(OBX, 2, two), 5, five)].map(String::from);
+        for _ in 0..=numbers.below(2) {
+            let (at, field) = [(0, 7), (1, 7), (2, 7), (3, 5), (3, 14)][numbers.below(5)];
+            segments[at] = set(&segments[at], field, &near_date(&mut numbers));
+        }
+        let [msh, pid, obr, obx] = &segments;
+        let message = message(&[msh, pid, obr, obx]);
+        let verdict = line(&message);
+        assert_eq!(verdict, plain_line(&message));
+        *seen.entry(verdict).or_insert(0) += 1;
+    }
+    for place in ["MSH 1 7", "PID 1 7", "OBR 1 7", "OBX 1 5", "OBX 1 14"] {
+        let verdict = format!("fault {} 1 1 1 102 13", place);
+        assert!(seen.get(&verdict) > Some(&100), "{:?}", seen);
+    }
+    assert!(seen.get("accepted") > Some(&2_000), "{:?}", seen);
 }
 
 #[test]

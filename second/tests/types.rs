@@ -47,7 +47,7 @@ const GOOD_DATE_TIMES: &[&str] = &[
     "202401",
     "202412",
     "20240101",
-    "20240231",
+    "20240131",
     "2024013100",
     "2024013123",
     "202401312359",
@@ -107,6 +107,15 @@ const BAD_DATE_TIMES: &[&str] = &[
 #[test]
 fn date_times() {
     each(is_date_time, GOOD_DATE_TIMES, BAD_DATE_TIMES);
+}
+
+#[test]
+fn a_day_that_is_not_in_its_month_has_the_form() {
+    each(
+        is_date_time,
+        &["20240230", "20240231", "20230229", "2024043123+0100"],
+        &["20240232", "20230200", "20240230x"],
+    );
 }
 
 #[test]

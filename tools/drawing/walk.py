@@ -6,6 +6,8 @@ from drawing.sources import constant, definition, fail, place_name
 
 PROFILE, FAULT = "crates/profile/specs/Profile.antt", "crates/checks/specs/Fault.antt"
 START, END = "start", "end"
+# how many reasons there are
+REASONS = 13
 
 
 def followers():
@@ -76,12 +78,12 @@ def conditions():
         if not re.fullmatch(r"\d{3}", test):
             ranges.append(tested(test))
             continue
-        for reason in range(1, 13):
+        for reason in range(1, REASONS + 1):
             if not ranges or any(low <= reason <= high for low, high in ranges):
                 told.setdefault(reason, int(test))
         ranges = []
-    if sorted(told) != list(range(1, 13)):
-        fail(f"{FAULT}: the condition of each reason, 1 to 12, is not found")
+    if sorted(told) != list(range(1, REASONS + 1)):
+        fail(f"{FAULT}: the condition of each reason, 1 to {REASONS}, is not found")
     return dict(sorted(told.items()))
 
 
@@ -186,6 +188,7 @@ WORDS = {
     ("leafChecks", 5): ["too long"],
     ("leafChecks", 6): ["bad escape"],
     ("leafChecks", 7): ["not of its type"],
+    ("leafChecks", 13): ["a date whose month has no such day"],
 }
 LEFT, RIGHT = 404, WIDTH - MARGIN
 

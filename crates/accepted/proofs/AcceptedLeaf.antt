@@ -16,13 +16,14 @@ use Rattle.text.specs.Limits.{tooLong}
 use Rattle.text.proofs.Tests.{not-true, same-true}
 use Rattle.text.proofs.Lists.{All, all-map, all-both, all-keep, all-kept, every-all, or-none}
 use Rattle.frame.specs.Segments.{segments, name, named, ofName, occurrence, fewer}
-use Rattle.profile.specs.Table.{Table, Codes, any, only, Leaf, Rule, Usage, R, ofType, isListed, rulesOf, leavesOf}
+use Rattle.profile.specs.Table.{Table, Codes, any, only, Leaf, Rule, Usage, R, ofType, noSuchDay, isListed, rulesOf, leavesOf}
 use Rattle.checks.specs.Place.{Place, place, leafAt, repetitions}
 use Rattle.checks.specs.View.{Entry, Repetition, Field, Segment, entriesAt, isFilled, filledUpTo, namedIn, fieldSeen, segmentSeen, listedSegments, view}
 use Rattle.checks.specs.Fault.{Check, listChecks, leafChecks, repetitionChecks, startsFilled, firstFilled, isRequired, fieldChecks, count, walk, checks, accepted, verdict}
 use Rattle.parts.proofs.Members.{append-all, keep-step, keep-all, some-map, map-all, flatMap-all, member-all}
 use Rattle.checks.proofs.Leaf.{leaf-nought, leaf-beyond}
 use Rattle.checks.proofs.Filled.{late-numbers}
+use Rattle.profile.proofs.Days.{empty-day}
 use Rattle.escape.proofs.Escapes.{bad-none}
 use Rattle.accepted.proofs.Accepted.{accepted-none}
 
@@ -35,6 +36,7 @@ pub record Kept (q : Marks) (l : Leaf) (t : Text) : Type 0 where
   pub short : tooLong (l .limit) t ≡ false
   pub good : badEscape q t ≡ false
   pub typed : not (empty t) && not (ofType (l .type) t) ≡ false
+  pub dated : noSuchDay (l .type) t ≡ false
   pub coded : InList (l .list) t
 
 -- Empty keeps it
@@ -43,7 +45,7 @@ empty-in any = tt
 empty-in (only codes n) = refl
 
 empty-kept : (q : Marks) (l : Leaf) (t : Text) → empty t ≡ true → Kept q l t
-empty-kept q l [] e = record { short = le-ltb (l .limit) 0 (omega arith); good = bad-none q; typed = refl; coded = empty-in (l .list) }
+empty-kept q l [] e = record { short = le-ltb (l .limit) 0 (omega arith); good = bad-none q; typed = refl; dated = empty-day (l .type) [] refl; coded = empty-in (l .list) }
 empty-kept q l (b ∷ t) e = not-true e
 
 -- in a filled repetition a starred one is not Empty
@@ -59,7 +61,7 @@ list-judged p (only codes n) t a = a .0
 
 leaf-judged : (q : Marks) (n : Text) (o f k : ℕ) (e : Entry)
     → All Fine (leafChecks q (place n o f k (e .leaf .component) (e .leaf .subcomponent)) (e .leaf) (e .text)) → Judged q (e .leaf) (e .text)
-leaf-judged q n o f k e a = (record { short = a .1 .0; good = a .1 .1 .0; typed = a .1 .1 .1 .0; coded = list-judged (place n o f k (e .leaf .component) (e .leaf .subcomponent)) (e .leaf .list) (e .text) (a .1 .1 .1 .1) }, a .0)
+leaf-judged q n o f k e a = (record { short = a .1 .0; good = a .1 .1 .0; typed = a .1 .1 .1 .0; dated = a .1 .1 .1 .1 .0; coded = list-judged (place n o f k (e .leaf .component) (e .leaf .subcomponent)) (e .leaf .list) (e .text) (a .1 .1 .1 .1 .1) }, a .0)
 
 abbrev EntriesJudged : Marks → List Entry → Type 0
 EntriesJudged q es = All (λ (e : Entry). Judged q (e .leaf) (e .text)) es

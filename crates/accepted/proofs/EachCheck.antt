@@ -123,7 +123,7 @@ module _ (F : ℕ → Bool) (L : Leaf → Bool) where
       pub surplus : (n : Text) (o f r : ℕ) → N n → F f ≡ true → C (place n (suc o) f (suc r) 0 0) 4
       pub leaf :
           (n : Text) (o f r : ℕ) (l : Leaf) → N n → F f ≡ true → L l ≡ true
-          → All (C (place n (suc o) f (suc r) (l .component) (l .subcomponent))) (3 ∷ 5 ∷ 6 ∷ 7 ∷ [])
+          → All (C (place n (suc o) f (suc r) (l .component) (l .subcomponent))) (3 ∷ 5 ∷ 6 ∷ 7 ∷ 13 ∷ [])
       pub list :
           (n : Text) (o f r : ℕ) (l : Leaf) → N n → F f ≡ true → L l ≡ true → (codes : List Text) (why : ℕ) → l .list ≡ only codes why
           → C (place n (suc o) f (suc r) (l .component) (l .subcomponent)) why
@@ -145,7 +145,7 @@ module _ (F : ℕ → Bool) (L : Leaf → Bool) where
       leaf-all n o f i h g e x =
           let l = e .leaf in
           let w = k .leaf n o f i l h g x in
-          (w .0, (w .1 .0, (w .1 .1 .0, (w .1 .1 .1 .0, list-all (place n (suc o) f (suc i) (l .component) (l .subcomponent)) (l .list) (e .text) (k .list n o f i l h g x)))))
+          (w .0, (w .1 .0, (w .1 .1 .0, (w .1 .1 .1 .0, (w .1 .1 .1 .1 .0, list-all (place n (suc o) f (suc i) (l .component) (l .subcomponent)) (l .list) (e .text) (k .list n o f i l h g x))))))
 
       repetition-all : (n : Text) (o f : ℕ) → N n → F f ≡ true → (r : Repetition) → RepetitionPasses r → All Holds (repetitionChecks q n (suc o) f r)
       repetition-all n o f h g r a =

@@ -71,7 +71,7 @@ fault-zeros T ok m p n e =
       leaf = λ x o f r l h g fits.
           let w = both (above (l .component)) (above (l .subcomponent)) fits in
           let t = at-leaf o f r (l .component) (l .subcomponent) g (w .0) (w .1) in
-          (t, (t, (t, (t, tt))));
+          (t, (t, (t, (t, (t, tt)))));
       list = λ x o f r l h g fits codes why is.
           let w = both (above (l .component)) (above (l .subcomponent)) fits in
           at-leaf o f r (l .component) (l .subcomponent) g (w .0) (w .1);

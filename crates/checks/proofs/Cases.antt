@@ -18,7 +18,7 @@ use Rattle.checks.specs.Place.{apart, leafAt, repetitions}
 use Rattle.checks.specs.View.{filledUpTo, fieldSeen, segmentSeen, view}
 use Rattle.checks.specs.Fault.{walk, checks, firstBroken, verdict}
 use Rattle.checks.specs.LookUp.{lookUp}
-use Rattle.checks.specs.Cases.{CasesHold, PlaceBeforeSegment}
+use Rattle.checks.specs.Cases.{CasesHold, PlaceBeforeSegment, DayBeforeList}
 
 pub cases-hold : CasesHold
 unfolding flatMap every some keep same marksOf isEscape stops badEscape digits rest twos split ended led closed part fieldOf typeLeaves gathered rulesOf noted rows profile01 apart leafAt repetitions filledUpTo fieldSeen segmentSeen view walk checks firstBroken verdict
@@ -27,3 +27,7 @@ cases-hold = refl
 pub place-before-segment : PlaceBeforeSegment
 unfolding every some keep same first marksOf split ended led closed endsWithCR frameTests lookUp
 place-before-segment = (refl, refl)
+
+pub day-before-list : DayBeforeList
+unfolding every some same isEscape stops badEscape digits rest twos firstBroken
+day-before-list = refl

@@ -3,15 +3,18 @@
 use Prim.Native.Nat.{ℕ}
 use Prim.Native.String.{String}
 use mathlib.Core.Path.{_≡_}
+use mathlib.Core.Bool.{true}
 use mathlib.Core.List.{List, [], _∷_, map}
 use Rattle.text.specs.Bytes.{Text, bytes, cr}
 use Rattle.text.specs.Answer.{refused}
 use Rattle.text.specs.declared.refusal.Refusal.the-variants.{BadPlace, NoSegment}
+use Rattle.text.specs.Marks.{usual}
 use Rattle.parts.specs.Split.{closed}
+use Rattle.profile.specs.Table.{DTM, Leaf, only}
 use Rattle.profile.specs.Profile.{profile01}
 use Rattle.checks.specs.Place.{place}
 use Rattle.checks.specs.LookUp.{lookUp}
-use Rattle.checks.specs.Fault.{Verdict, accepted, fault, verdict}
+use Rattle.checks.specs.Fault.{Verdict, accepted, fault, leafChecks, firstBroken, verdict}
 
 pub record Case : Type 0 where
   pub lines : List String
@@ -74,6 +77,10 @@ cases =
     -- too long is told before a bad escape, and a bad escape before the type
     ∷ (withOBX "OBX|1||T|ABCDEFGHIJKLMNOPQRST\\|||||||F" is at "OBX" 1 4 1 1 1 5)
     ∷ (withOBX "OBX|1\\||T||||||||F" is at "OBX" 1 1 1 1 1 6)
+    -- a date in the form whose month has no such day, and one that is not in the form
+    ∷ (withPID "PID|||A||B||20240231" is at "PID" 1 7 1 1 1 13)
+    ∷ (withPID "PID|||A||B||20240232" is at "PID" 1 7 1 1 1 7)
+    ∷ (withPID "PID|||A||B||20240229" is accepted)
     -- an occurrence is counted among those of its name
     ∷ (msh ∷ pid ∷ "ZZX" ∷ obr ∷ obx ∷ "OBX|x||T||||||||F" ∷ [] is at "OBX" 2 1 1 1 1 7)
     -- a list with a reason of its own, and one without
@@ -90,3 +97,26 @@ abbrev pub PlaceBeforeSegment : Type 0
 PlaceBeforeSegment =
     (lookUp (closed cr (bytes msh ∷ [])) (place (bytes "ZZX") 513 1 1 1 1) ≡ refused BadPlace)
     × (lookUp (closed cr (bytes msh ∷ [])) (place (bytes "ZZX") 512 1 1 1 1) ≡ refused NoSegment)
+
+-- A LEAF WITH A DATE AND A LIST, as 01's table has none: too long, bad escape, form, day, list, in this order
+abbrev pub dated : Leaf
+dated =
+    record {
+      component = 1;
+      subcomponent = 1;
+      type = DTM;
+      star = true;
+      limit = 14;
+      list = only (bytes "20240229" ∷ bytes "20240231" ∷ []) 8;
+    }
+
+abbrev pub toldLeaf : String → Verdict
+toldLeaf s = firstBroken (leafChecks usual (place (bytes "ZZX") 1 1 1 1 1) dated (bytes s))
+
+abbrev pub here : ℕ → Verdict
+here reason = at "ZZX" 1 1 1 1 1 reason
+
+abbrev pub DayBeforeList : Type 0
+DayBeforeList =
+    map toldLeaf ("" ∷ "20240230101500Z" ∷ "20240230\\" ∷ "20240232" ∷ "20240230" ∷ "20240231" ∷ "20240228" ∷ "20240229" ∷ [])
+    ≡ here 3 ∷ here 5 ∷ here 6 ∷ here 7 ∷ here 13 ∷ here 13 ∷ here 8 ∷ accepted ∷ []

@@ -1,7 +1,7 @@
 -- An entry's promise is made of this.
 -- The checks of a message in the order of the walk. Its fault is the first that is broken; it is accepted where none is.
 use Prim.Native.Nat.{ℕ, suc}
-use mathlib.Core.Bool.{Bool, true, false, not, _&&_}
+use mathlib.Core.Bool.{Bool, true, false, not, _&&_, _||_}
 use mathlib.Core.List.{List, [], _∷_, _++_, flatMap}
 use lib.ListN.{length}
 use lib.Dec.{eqb}
@@ -12,7 +12,7 @@ use Rattle.text.specs.Marks.{marksOf}
 use Rattle.escape.specs.Escape.{badEscape}
 use Rattle.text.specs.Limits.{tooLong, _to_, isWithin}
 use Rattle.frame.specs.Frame.{frameTests}
-use Rattle.profile.specs.Table.{Table, Codes, any, only, Leaf, Usage, O, R, C, ofType, mayFollow, mayEnd}
+use Rattle.profile.specs.Table.{Table, Codes, any, only, Leaf, Usage, O, R, C, ofType, noSuchDay, mayFollow, mayEnd}
 use Rattle.checks.specs.Place.{Place, place}
 use Rattle.checks.specs.View.{Entry, Repetition, Field, Segment, view}
 
@@ -29,14 +29,15 @@ abbrev pub listChecks : Place → Codes → Text → List Check
 listChecks p any t = []
 listChecks p (only codes n) t = check p n (not (empty t) && not (isOne t codes)) ∷ []
 
--- A LEAF'S OWN RULE: Empty passes unless it is starred; else too long, bad escape, not of its type, not in its list. (No bytes are never too long, and have no
--- bad escape)
+-- A LEAF'S OWN RULE: Empty passes unless it is starred; else too long, bad escape, not of its type, no such day, not in its list. (No bytes are never too long,
+-- have no bad escape and name no day)
 abbrev pub leafChecks : Marks → Place → Leaf → Text → List Check
 leafChecks q p l t =
     check p 3 (empty t && l .star)
     ∷ check p 5 (tooLong (l .limit) t)
     ∷ check p 6 (badEscape q t)
     ∷ check p 7 (not (empty t) && not (ofType (l .type) t))
+    ∷ check p 13 (noSuchDay (l .type) t)
     ∷ listChecks p (l .list) t
 
 -- the leaves of a filled repetition, rising
@@ -102,12 +103,13 @@ verdict T m = firstBroken (checks T m)
 unfoldable pub judge : Table → Text → Answer Verdict
 judge T m = first (frameTests m) (verdict T m)
 
--- THE CONDITION CODE of a reason: 1, 2 are 100; 3 is 101; 4 to 7 are 102; 8 is 103; 9 to 12 are 200 to 203. Any other number is no reason and has none: 0
+-- THE CONDITION CODE of a reason: 1, 2 are 100; 3 is 101; 4 to 7 and 13 are 102; 8 is 103; 9 to 12 are 200 to 203. Any other number is no reason and has
+-- none: 0
 abbrev pub condition : ℕ → ℕ
 condition n =
     pick (isWithin (1 to 2) n) 100
     (pick (eqb n 3) 101
-    (pick (isWithin (4 to 7) n) 102
+    (pick (isWithin (4 to 7) n || eqb n 13) 102
     (pick (eqb n 8) 103
     (pick (eqb n 9) 200
     (pick (eqb n 10) 201

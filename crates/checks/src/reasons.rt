@@ -11,3 +11,5 @@ pub const TOO_LONG: u8 = 5;
 pub const BAD_ESCAPE: u8 = 6;
 
 pub const NOT_OF_ITS_TYPE: u8 = 7;
+
+pub const NO_SUCH_DAY: u8 = 13;

@@ -10,7 +10,7 @@ use borrow.Author.Tests.{eq-eqb, ne-eqb, eqb-true, eqb-false}
 use Rattle.text.specs.Bytes.{Text, pick, bytes, same}
 use Rattle.text.proofs.Tests.{same-true, same-self, same-length}
 use Rattle.text.proofs.Lists.{All, and-true}
-use Rattle.profile.specs.Table.{ST, TX, FT, ID, IS, ofType}
+use Rattle.profile.specs.Table.{SI, NM, DTM, TM, ST, TX, FT, ID, IS, ofType, noSuchDay}
 use Rattle.profile.specs.Lists.{value-types}
 use Rattle.profile.specs.Numbers.{segmentNames, simpleOf, numberIn, segmentNumber, typeNumber}
 
@@ -101,6 +101,21 @@ any-text false false false false t = refl
 
 pub other-type : (n : ℕ) (t : Text) → (n ≡ 1 → ⊥) → (n ≡ 2 → ⊥) → (n ≡ 3 → ⊥) → (n ≡ 4 → ⊥) → true ≡ ofType (simpleOf n) t
 other-type n t a b c d = rw (ne-eqb n 1 a, ne-eqb n 2 b, ne-eqb n 3 c, ne-eqb n 4 d) (any-text (eqb n 5) (eqb n 6) (eqb n 7) (eqb n 8) t)
+
+-- TYPES whose texts name no day
+no-date : (a b d e f g h : Bool) (t : Text)
+    → noSuchDay (pick a SI (pick b NM (pick false DTM (pick d TM (pick e ST (pick f TX (pick g FT (pick h ID IS)))))))) t ≡ false
+no-date true b d e f g h t = refl
+no-date false true d e f g h t = refl
+no-date false false true e f g h t = refl
+no-date false false false true f g h t = refl
+no-date false false false false true g h t = refl
+no-date false false false false false true h t = refl
+no-date false false false false false false true t = refl
+no-date false false false false false false false t = refl
+
+pub other-day : (n : ℕ) (t : Text) → (n ≡ 3 → ⊥) → noSuchDay (simpleOf n) t ≡ false
+other-day n t e = rw (ne-eqb n 3 e) (no-date (eqb n 1) (eqb n 2) (eqb n 4) (eqb n 5) (eqb n 6) (eqb n 7) (eqb n 8) t)
 
 pub not-zero : (n : ℕ) → (n ≡ 0 → ⊥) → 1 ≤ n
 not-zero n e = omega (arith, e)

@@ -8,7 +8,7 @@ use lib.ListN.{length, getD, take, drop, length-take}
 use lib.Seq.{drop-cons, drop-drop, take-take}
 use lib.Dec.{ltb}
 use borrow.Author.Tests.{eqb-true, ltb-true}
-use Rattle.text.specs.Bytes.{every, same, within}
+use Rattle.text.specs.Bytes.{every, within}
 use Rattle.text.proofs.Tests.{both}
 use Rattle.text.proofs.Lists.{and-both, drop-take}
 use Rattle.profile.specs.Codes.{longestCode, leadingByte, following, withFirst, codesBehind, codesFrom, areWhole, areCodes}

@@ -61,7 +61,7 @@ otherwise m (Refused x) h g b =
 otherwise m Accepted h g b = not-true (sym b ∙ judged-accepted profile01 m (sym h) .1)
 otherwise m (Fault f) h g b = (f, refl)
 
-reason : (m : Text) (f : code-fault.Fault) → Judges profile01 m (Fault f) → (1 ≤ f .reason) × (f .reason ≤ 12)
+reason : (m : Text) (f : code-fault.Fault) → Judges profile01 m (Fault f) → (1 ≤ f .reason) × (f .reason ≤ 13)
 unfolding judge
 reason m f h =
     let p = placeOf (f .place) in

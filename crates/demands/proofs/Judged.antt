@@ -47,7 +47,7 @@ module _ (q : Marks) (n : Text) (o : ℕ) (ok : isName n ≡ true) where
       (λ (e : Entry). leafChecks q (place n o f (r .number) (e .leaf .component) (e .leaf .subcomponent)) (e .leaf) (e .text))
       (r .entries)
       (all-of _
-      (λ e. (ok, (ok, (ok, (ok, list-named (place n o f (r .number) (e .leaf .component) (e .leaf .subcomponent)) ok (e .leaf .list) (e .text))))))
+      (λ e. (ok, (ok, (ok, (ok, (ok, list-named (place n o f (r .number) (e .leaf .component) (e .leaf .subcomponent)) ok (e .leaf .list) (e .text)))))))
       (r .entries))
 
   field-named : (vs : List Field) (v : Field) → All Named (fieldChecks q n o vs v)

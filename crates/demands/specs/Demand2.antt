@@ -82,11 +82,11 @@ pub record Demand2 : Type 0 where
   pub fault :
       (m : Text) (f : code.Fault) → Judges profile01 m (Fault f)
       → (framed m ≡ true) × FirstBroken (checks profile01 m) (placeOf (f .place)) (f .reason)
-  -- ITS REASON is 1 to 12, and each of these has 01's condition code
-  pub reason : (m : Text) (f : code.Fault) → Judges profile01 m (Fault f) → (1 ≤ f .reason) × (f .reason ≤ 12)
+  -- ITS REASON is 1 to 13, and each of these has 01's condition code
+  pub reason : (m : Text) (f : code.Fault) → Judges profile01 m (Fault f) → (1 ≤ f .reason) × (f .reason ≤ 13)
   pub conditions :
-      map condition (1 ∷ 2 ∷ 3 ∷ 4 ∷ 5 ∷ 6 ∷ 7 ∷ 8 ∷ 9 ∷ 10 ∷ 11 ∷ 12 ∷ [])
-      ≡ 100 ∷ 100 ∷ 101 ∷ 102 ∷ 102 ∷ 102 ∷ 102 ∷ 103 ∷ 200 ∷ 201 ∷ 202 ∷ 203 ∷ []
+      map condition (1 ∷ 2 ∷ 3 ∷ 4 ∷ 5 ∷ 6 ∷ 7 ∷ 8 ∷ 9 ∷ 10 ∷ 11 ∷ 12 ∷ 13 ∷ [])
+      ≡ 100 ∷ 100 ∷ 101 ∷ 102 ∷ 102 ∷ 102 ∷ 102 ∷ 103 ∷ 200 ∷ 201 ∷ 202 ∷ 203 ∷ 102 ∷ []
   -- A TEXT that is looked up is what stands at that place of the caller's message; where Empty is answered, nothing stands there
   pub text :
       (m : RefT Text) (p : code-place.Place) (r : LookedUp) (a e : ℕ) → LooksUp m p r → r .sort ≡ found.Text a e

@@ -21,7 +21,7 @@ use Rattle.text.specs.declared.marks.Marks.{Marks}
 use Rattle.text.specs.declared.refusal.Refusal.the-variants.{NoRoom, BadEscape}
 use Rattle.text.specs.declared.Written.{Written}
 use Rattle.text.specs.declared.Written.the-variants.{Refused, Bytes}
-use Rattle.text.proofs.Tests.{not-true, both}
+use Rattle.text.proofs.Tests.{not-true, both, and-false}
 use Rattle.text.proofs.Lists.{or-false, and-true}
 use Rattle.text.proofs.Puts.{puts-front-room, puts-front-ends, puts-front}
 
@@ -30,10 +30,6 @@ or-and true b true = refl
 or-and true true false = refl
 or-and true false false = refl
 or-and false b x = refl
-
-and-false : (b : Bool) → b && false ≡ false
-and-false true = refl
-and-false false = refl
 
 -- 1. What begins at the front of a text: a \, one of five letters, and a second \
 escape-step : (x f s t r e y : Bool)

@@ -162,7 +162,7 @@ module _ (m : Text) (out after : List ℕ) (h : JudgeTells profile01 m out 0 aft
   ten-zeros : judge profile01 m ≡ given accepted → after ≡ replicate 10 0
   ten-zeros e = rw e at (h .list)
 
-  reason : (p : Place) (n : ℕ) → judge profile01 m ≡ given (fault p n) → (getD after 0 0 ≡ n) × ((1 ≤ n) × (n ≤ 12))
+  reason : (p : Place) (n : ℕ) → judge profile01 m ≡ given (fault p n) → (getD after 0 0 ≡ n) × ((1 ≤ n) × (n ≤ 13))
   unfolding judge
   reason p n e = (
     ap (λ (l : List ℕ). getD l 0 0) (rw e at (h .list)),

@@ -2,7 +2,7 @@
 -- WHAT THE DEMANDS SAY OF THE SIX ENTRIES HOLDS OF THE SIX EXPORTED FUNCTIONS, which C and Rust call. Such a function returns a number: 0 where the
 -- call is answered, else the number of the refusal. What it has to tell besides stands in a list of numbers that is lent to it, `out`.
 -- The user must be certain that each call has one answer and only one; that a refusal is the first that applies in 01's order, and leaves the
--- buffer, the book and `out` as they were; that ten zeros mean accepted and any other first number is the reason, 1 to 12; that a filed slip changes its
+-- buffer, the book and `out` as they were; that ten zeros mean accepted and any other first number is the reason, 1 to 13; that a filed slip changes its
 -- own slot and nothing else; and that a newer sender's additions alter nothing.
 --
 -- An exported function and its entry are made of the same definition: `judge` answers what `ithwyral_judge` tells. The crate `linked` has the six functions
@@ -107,10 +107,10 @@ pub record Exported : Type 0 where
       (m : Text) (out after : List ℕ) → JudgeTells profile01 m out 0 after → judge profile01 m ≡ given accepted → after ≡ replicate 10 0
   pub only-accepted :
       (m : Text) (out after : List ℕ) → JudgeTells profile01 m out 0 after → after ≡ replicate 10 0 → judge profile01 m ≡ given accepted
-  -- OF A FAULT the first number is the reason, 1 to 12
+  -- OF A FAULT the first number is the reason, 1 to 13
   pub reason :
       (m : Text) (out after : List ℕ) (p : Place) (n : ℕ) → JudgeTells profile01 m out 0 after → judge profile01 m ≡ given (fault p n)
-      → (getD after 0 0 ≡ n) × ((1 ≤ n) × (n ≤ 12))
+      → (getD after 0 0 ≡ n) × ((1 ≤ n) × (n ≤ 13))
   -- A FILED SLIP changes its own slot and nothing else
   pub own-slot :
       (m : Text) (group slot : ℕ) (book after : Text) → FileTells profile01 m group slot book 0 after → OnlySlot slot book after

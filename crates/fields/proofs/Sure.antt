@@ -9,14 +9,14 @@ use lib.Dec.{eqb, leb}
 use borrow.Author.Tests.{eqb-true, ne-eqb, leb-true, le-ltb}
 use Rattle.text.specs.Bytes.{Text, empty, every, some, within}
 use Rattle.text.specs.declared.marks.Marks.{Marks}
-use Rattle.text.proofs.Tests.{both, not-true as no}
+use Rattle.text.proofs.Tests.{both, not-true as no, and-false}
 use Rattle.parts.specs.Split.{split, piece, front}
 use Rattle.parts.specs.Start.{start}
 use Rattle.parts.specs.Span.{partText}
 use Rattle.parts.proofs.Split.{piece-le}
 use Rattle.parts.proofs.Descent.{within-piece}
 use Rattle.parts.proofs.Join.{split-one}
-use Rattle.profile.specs.Table.{Simple, SI, NM, DTM, TM, ST, TX, FT, ID, IS, Codes, any, only, Leaf, ofType}
+use Rattle.profile.specs.Table.{Simple, SI, NM, DTM, TM, ST, TX, FT, ID, IS, Codes, any, only, Leaf, ofType, noSuchDay}
 use Rattle.profile.specs.Order.{takesAny, hasNoList, takesUpTo}
 use Rattle.codes.specs.Inner.{SureUpTo, sure}
 use Rattle.checks.specs.Place.{Place, place}
@@ -40,6 +40,17 @@ any-type TX t e = refl
 any-type FT t e = refl
 any-type ID t e = refl
 any-type IS t e = refl
+
+any-day : (k : Simple) (t : Text) → takesAny k ≡ true → noSuchDay k t ≡ false
+any-day SI t e = refl
+any-day NM t e = refl
+any-day DTM t e = no e
+any-day TM t e = refl
+any-day ST t e = refl
+any-day TX t e = refl
+any-day FT t e = refl
+any-day ID t e = refl
+any-day IS t e = refl
 
 any-code : (p : Place) (l : Codes) (t : Text) → hasNoList l ≡ true → firstBroken (listChecks p l t) ≡ accepted
 unfolding firstBroken
@@ -75,10 +86,6 @@ takes n l e =
       first = eqb-true (l .subcomponent) 1 (i .1);
       star = star-one (l .star) (l .component) (h .1);
     }
-
-and-false : (b : Bool) → b && false ≡ false
-and-false true = refl
-and-false false = refl
 
 -- the first piece of a text that does not begin with the separator
 front-some : (b : ℕ) (ps : List Text) → empty (piece 1 (front false b ps)) ≡ false
@@ -121,7 +128,7 @@ module _ (q : Marks) (x : Text) (clean : isFlat q x ≡ true) (filled : 1 ≤ le
   leaf-good l t p =
       let c = l .component in
       let fits : length (component c) ≤ l .limit = omega (arith, piece-le (q .component) c x, t .limit, short) in
-      rw (t .first, leaf-is c, starred (l .star) c (t .star), le-ltb (l .limit) (length (component c)) fits, flat-plain q (component c) (component-flat c), any-type (l .type) (component c) (t .type), any-code p (l .list) (component c) (t .list), and-false (not (empty (component c))))
+      rw (t .first, leaf-is c, starred (l .star) c (t .star), le-ltb (l .limit) (length (component c)) fits, flat-plain q (component c) (component-flat c), any-type (l .type) (component c) (t .type), any-day (l .type) (component c) (t .type), any-code p (l .list) (component c) (t .list), and-false (not (empty (component c))))
 
   leaves-good : (ls : List Leaf) → every (takesUpTo n) ls ≡ true → (m : Text) (o f k : ℕ)
       → firstBroken (repetitionChecks q m o f (record { number = k; entries = entriesOf q ls x })) ≡ accepted

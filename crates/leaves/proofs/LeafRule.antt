@@ -6,20 +6,21 @@ use mathlib.Core.Bool.{Bool, true, false, not}
 use mathlib.Core.List.{List, [], _∷_}
 use lib.ListN.{length, getD, drop}
 use lib.Seq.{getD-drop}
-use lib.Dec.{leb}
+use lib.Dec.{eqb, leb}
 use borrow.Author.Tests.{eq-eqb, ne-eqb, lt-ltb, le-ltb, leb-true}
 use Rattle.text.specs.Bytes.{Text, pick, empty}
 use Rattle.escape.specs.Escape.{badEscape}
 use Rattle.text.specs.declared.marks.Marks.{Marks}
 use Rattle.text.proofs.Tests.{both, not-true as no, empty-none, empty-some}
-use Rattle.profile.specs.Table.{Codes, any, only, ofType}
+use Rattle.profile.specs.Table.{Codes, any, only, ofType, noSuchDay}
 use Rattle.profile.specs.Numbers.{leafOf, simpleOf, codesOf, isInList, limitColumn, listColumn, reasonColumn, starColumn, typeColumn}
 use Rattle.profile.specs.Order.{reasonFits}
+use Rattle.profile.proofs.Days.{empty-day}
 use Rattle.escape.proofs.Escapes.{bad-none}
-use Rattle.codes.proofs.Numbered.{other-type}
+use Rattle.codes.proofs.Numbered.{other-type, other-day}
 use Rattle.checks.specs.Place.{Place}
-use Rattle.checks.specs.Fault.{Verdict, accepted, fault, check, listChecks, leafChecks, firstBroken}
-use Rattle.leaves.specs.Judged.{told}
+use Rattle.checks.specs.Fault.{Verdict, accepted, fault, Check, check, listChecks, leafChecks, firstBroken}
+use Rattle.leaves.specs.Judged.{told, typeReason}
 
 -- no bytes, no escape
 no-escape : (q : Marks) (s : Text) → length s ≡ 0 → badEscape q s ≡ false
@@ -54,9 +55,26 @@ row-reason table at s listed e f h =
     reason-range (getD table (at + listColumn) 0) (getD table (at + reasonColumn) 0) s listed e f
     (rw (getD-drop at table listColumn 0, getD-drop at table reasonColumn 0) at h)
 
+-- the form, the day, and what comes after them
+type-step : (typed noSuch : Bool) (p : Place) (cs : List Check)
+    → firstBroken (check p 7 (not typed) ∷ check p 13 noSuch ∷ cs) ≡ pick (eqb (pick typed (pick noSuch 13 0) 7) 0) (firstBroken cs) (fault p (pick typed (pick noSuch 13 0) 7))
+unfolding firstBroken
+type-step true true p cs = refl
+type-step true false p cs = refl
+type-step false noSuch p cs = refl
+
 module _ (q : Marks) (table : List ℕ) (at : ℕ) (s : Text) where
   abbrev number : ℕ → ℕ
   number i = getD table (at + i) 0
+
+  abbrev typed : Bool
+  typed = ofType (simpleOf (number typeColumn)) s
+
+  abbrev noSuch : Bool
+  noSuch = noSuchDay (simpleOf (number typeColumn)) s
+
+  abbrev list : Codes
+  list = codesOf (number listColumn) (number reasonColumn)
 
   abbrev first : Place → Verdict
   first p = firstBroken (leafChecks q p (leafOf (drop at table)) s)
@@ -69,7 +87,7 @@ module _ (q : Marks) (table : List ℕ) (at : ℕ) (s : Text) where
     pub rule-empty : (number starColumn ≡ 1 → ⊥) → (p : Place) → accepted ≡ first p
     unfolding firstBroken
     rule-empty e p =
-        rw (no-text p (leafOf (drop at table) .list) s (empty-none s none), empty-none s none, no-escape q s none, getD-drop at table starColumn 0, ne-eqb (number starColumn) 1 e, le-ltb (getD (drop at table) limitColumn 0) (length s) (omega arith))
+        rw (no-text p (leafOf (drop at table) .list) s (empty-none s none), empty-day (leafOf (drop at table) .type) s none, empty-none s none, no-escape q s none, getD-drop at table starColumn 0, ne-eqb (number starColumn) 1 e, le-ltb (getD (drop at table) limitColumn 0) (length s) (omega arith))
 
   module _ (some : length s ≡ 0 → ⊥) where
     filled : empty s ≡ false
@@ -80,7 +98,7 @@ module _ (q : Marks) (table : List ℕ) (at : ℕ) (s : Text) where
     rule-long l p = rw (filled, getD-drop at table limitColumn 0, lt-ltb (number limitColumn) (length s) l)
 
     module _ (fits : length s ≤ number limitColumn) where
-      short : (p : Place) → first p ≡ firstBroken (check p 6 (badEscape q s) ∷ check p 7 (not (ofType (simpleOf (number typeColumn)) s)) ∷ listChecks p (codesOf (number listColumn) (number reasonColumn)) s)
+      short : (p : Place) → first p ≡ firstBroken (check p 6 (badEscape q s) ∷ check p 7 (not typed) ∷ check p 13 noSuch ∷ listChecks p list s)
       unfolding firstBroken
       short p = rw (filled, getD-drop at table limitColumn 0, le-ltb (number limitColumn) (length s) fits, getD-drop at table typeColumn 0, getD-drop at table listColumn 0, getD-drop at table reasonColumn 0)
 
@@ -89,21 +107,22 @@ module _ (q : Marks) (table : List ℕ) (at : ℕ) (s : Text) where
         unfolding firstBroken
         rule-escape e p = rw (short p, ← escaped, e)
 
-        module _ (good : bad ≡ false) (typed : Bool) (is-typed : typed ≡ ofType (simpleOf (number typeColumn)) s) where
-          pub rule-type : not typed ≡ true → (p : Place) → fault p 7 ≡ first p
+        module _ (good : bad ≡ false) (why : ℕ) (is-why : why ≡ typeReason (simpleOf (number typeColumn)) s) where
+          by-type : (p : Place) → first p ≡ pick (eqb why 0) (firstBroken (listChecks p list s)) (fault p why)
           unfolding firstBroken
-          rule-type e p = rw (short p, ← escaped, good, ← is-typed, e)
+          by-type p = rw (short p, ← escaped, good, is-why) (type-step typed noSuch p (listChecks p list s))
 
-          module _ (of-type : not typed ≡ false) (listed : Bool) (is-listed : listed ≡ isInList (number listColumn) s) where
+          pub rule-type : (why ≡ 0 → ⊥) → (p : Place) → told p why ≡ first p
+          rule-type e p = rw (by-type p, ne-eqb why 0 e)
+
+          module _ (taken : why ≡ 0) (listed : Bool) (is-listed : listed ≡ isInList (number listColumn) s) where
             pub rule-list : not listed ≡ true → reasonFits (leafOf (drop at table) .list) ≡ true → (p : Place) → told p (number reasonColumn) ≡ first p
-            unfolding firstBroken
             rule-list e h p =
                 let l = row-reason table at s listed is-listed e h .0 in
-                rw (short p, ← escaped, good, ← is-typed, of-type, by-list p (number listColumn) (number reasonColumn) s filled, ← is-listed, e, ne-eqb (number reasonColumn) 0 (λ z. omega (arith, l, z)))
+                rw (by-type p, taken, by-list p (number listColumn) (number reasonColumn) s filled, ← is-listed, e, ne-eqb (number reasonColumn) 0 (λ z. omega (arith, l, z)))
 
             pub rule-good : not listed ≡ false → (p : Place) → accepted ≡ first p
-            unfolding firstBroken
-            rule-good e p = rw (short p, ← escaped, good, ← is-typed, of-type, by-list p (number listColumn) (number reasonColumn) s filled, ← is-listed, e)
+            rule-good e p = rw (by-type p, taken, by-list p (number listColumn) (number reasonColumn) s filled, ← is-listed, e)
 
 -- a text that is not too long has no bad escape
 pub plain-good : (q : Marks) (table : List ℕ) (at : ℕ) (s : Text) → (length s ≤ leafOf (drop at table) .limit → badEscape q s ≡ false)
@@ -111,8 +130,11 @@ pub plain-good : (q : Marks) (table : List ℕ) (at : ℕ) (s : Text) → (lengt
 plain-good q table at s good h = good (rw (getD-drop at table limitColumn 0) h)
 
 -- a leaf whose type and list take any text
+takes-any : (n : ℕ) (s : Text) → 4 < n → 0 ≡ typeReason (simpleOf n) s
+takes-any n s h = rw (← other-type n s (λ z. omega (arith, h, z)) (λ z. omega (arith, h, z)) (λ z. omega (arith, h, z)) (λ z. omega (arith, h, z)), other-day n s (λ z. omega (arith, h, z)))
+
 pub rule-any : (q : Marks) (table : List ℕ) (at : ℕ) (s : Text) → 0 < length s → length s ≤ getD table (at + limitColumn) 0 → 4 < getD table (at + typeColumn) 0 → getD table (at + listColumn) 0 ≡ 0 → badEscape q s ≡ false
     → (p : Place) → accepted ≡ firstBroken (leafChecks q p (leafOf (drop at table)) s)
 rule-any q table at s some fits type list good p =
-    rule-good q table at s (λ z. omega (arith, z)) fits false (sym good) refl true
-    (other-type (getD table (at + typeColumn) 0) s (λ z. omega (arith, z)) (λ z. omega (arith, z)) (λ z. omega (arith, z)) (λ z. omega (arith, z))) refl true (rw list) refl p
+    rule-good q table at s (λ z. omega (arith, z)) fits false (sym good) refl 0
+    (takes-any (getD table (at + typeColumn) 0) s type) refl true (rw list) refl p

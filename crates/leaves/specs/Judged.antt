@@ -9,7 +9,7 @@ use lib.Dec.{eqb}
 use Rattle.text.specs.Bytes.{Text, pick}
 use Rattle.text.specs.declared.marks.Marks.{Marks}
 use Rattle.escape.specs.Escape.{badEscape}
-use Rattle.profile.specs.Table.{Leaf}
+use Rattle.profile.specs.Table.{Simple, Leaf, ofType, noSuchDay}
 use Rattle.leaves.specs.declared.repetition.ReadRepetition.{ReadRepetition}
 use Rattle.checks.specs.Place.{Place, place}
 use Rattle.checks.specs.View.{isFilled}
@@ -19,6 +19,10 @@ use Rattle.checks.specs.Fault.{Verdict, accepted, fault, leafChecks, repetition
 -- a reason of nought: nothing is broken
 abbrev pub told : Place → ℕ → Verdict
 told p n = pick (eqb n 0) accepted (fault p n)
+
+-- which of a type's two checks a text breaks first: its form, then its day
+abbrev pub typeReason : Simple → Text → ℕ
+typeReason k t = pick (ofType k t) (pick (noSuchDay k t) 13 0) 7
 
 -- A LEAF: its first broken check
 abbrev pub ReadsLeaf : Marks → Leaf → Text → ℕ → Type 0

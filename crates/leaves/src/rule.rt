@@ -4,9 +4,10 @@ ghost use mathlib.Core.Bool.{true};
 ghost use Prim.Native.Nat.{_+_, _≤_};
 ghost use lib.ListN.{length, drop};
 ghost use Rattle.profile.specs.Codes.{HasLists};
-ghost use Rattle.profile.specs.Numbers.{leafOf, rowSize};
+ghost use Rattle.profile.specs.Table.{DTM};
+ghost use Rattle.profile.specs.Numbers.{leafOf, rowSize, simpleOf};
 ghost use Rattle.profile.specs.Order.{reasonFits};
-ghost use Rattle.leaves.specs.Judged.{ReadsLeaf, ReadsPlain, TakesAny};
+ghost use Rattle.leaves.specs.Judged.{ReadsLeaf, ReadsPlain, TakesAny, typeReason};
 use checks::reasons;
 use codes::is_in_list;
 use codes::is_of_type;
@@ -14,6 +15,34 @@ use escape::bad_escape;
 use profile::columns;
 use profile::numbers;
 use text::Marks;
+use types::day_exists;
+use types::is_dtm;
+
+// Why a text is no date: it is not in the form, or its month has no such day; 0 where it is one.
+fn date_reason(s: &[u8]) -> u8
+    ensures { λ r. ⌜ r ≡ typeReason DTM (now (s .entry)) ⌝ }
+{
+    if !is_dtm(s) {
+        return reasons::NOT_OF_ITS_TYPE;
+    }
+    if !day_exists(s) {
+        return reasons::NO_SUCH_DAY;
+    }
+    reasons::NOTHING_BROKEN
+}
+
+// Why the simple type with that number does not take a text, 0 where it does. A date is asked for first, since the other types name no day.
+fn type_reason(s: &[u8], n: u16) -> u8
+    ensures { λ r. ⌜ r ≡ typeReason (simpleOf n) (now (s .entry)) ⌝ }
+{
+    if n == numbers::DTM {
+        return date_reason(s);
+    }
+    if !is_of_type(n, s) {
+        return reasons::NOT_OF_ITS_TYPE;
+    }
+    reasons::NOTHING_BROKEN
+}
 
 // The reason of the first check that a leaf's text breaks, 0 where it breaks none; a caller who knows no bad escape in it asks this. The row of the leaf
 // begins at `at`.
@@ -31,8 +60,9 @@ pub fn plain_reason(s: &[u8], table: &[u16], at: usize) -> u8
     if (table[at + columns::LIMIT] as usize) < s.len() {
         return reasons::TOO_LONG;
     }
-    if !is_of_type(table[at + columns::TYPE], s) {
-        return reasons::NOT_OF_ITS_TYPE;
+    let reason = type_reason(s, table[at + columns::TYPE]);
+    if reason != reasons::NOTHING_BROKEN {
+        return reason;
     }
     let end = table[columns::LISTS_END] as usize;
     if !is_in_list(&table[columns::LISTS..end], table[at + columns::LIST], s) {

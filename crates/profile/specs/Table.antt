@@ -1,11 +1,11 @@
 -- An entry's promise is made of this.
 -- A table: a row for each listed leaf, which types a field may name, and which segment may follow which.
 use Prim.Native.Nat.{ℕ}
-use mathlib.Core.Bool.{Bool, true, _&&_}
+use mathlib.Core.Bool.{Bool, true, false, not, _&&_}
 use mathlib.Core.List.{List, [], _∷_, flatMap}
 use lib.Dec.{eqb}
 use Rattle.text.specs.Bytes.{Text, pick, some, keep, same, isOne}
-use Rattle.types.specs.Types.{isSI, isNM, isDTM, isTM}
+use Rattle.types.specs.Types.{isSI, isNM, isDTM, isTM, dayExists}
 
 pub data Simple : Type 0 where
   SI NM DTM TM ST TX FT ID IS : Simple
@@ -21,6 +21,18 @@ ofType TX t = true
 ofType FT t = true
 ofType ID t = true
 ofType IS t = true
+
+-- a text of type DTM whose month has no such day; a text of another type names no day
+abbrev pub noSuchDay : Simple → Text → Bool
+noSuchDay SI t = false
+noSuchDay NM t = false
+noSuchDay DTM t = not (dayExists t)
+noSuchDay TM t = false
+noSuchDay ST t = false
+noSuchDay TX t = false
+noSuchDay FT t = false
+noSuchDay ID t = false
+noSuchDay IS t = false
 
 -- any text; or one of a list, and the reason where it is none of them
 pub data Codes : Type 0 where

@@ -11,7 +11,7 @@ use Rattle.text.specs.Bytes.{Text, pick, bytes, byte, cr, digit, capitalOrDigit
 use Rattle.text.specs.Decimal.{digitsBefore, decimal}
 use Rattle.text.specs.Marks.{usual, marksOf}
 use Rattle.escape.specs.Escape.{badEscape}
-use Rattle.types.specs.Types.{isDTM, isStamp, isReplyNumber}
+use Rattle.types.specs.Types.{isDTM, dayExists, isStamp, isReplyNumber}
 use Rattle.text.specs.Limits.{tooLong, _to_, isWithin}
 use Rattle.text.proofs.Tests.{not-true, both, picks, same-true}
 use Rattle.text.proofs.Lists.{All, or-either, or-none}
@@ -93,7 +93,8 @@ zeros-total (n ∷ ns) =
 -- 3. The header
 stamp-length : (t : Text) → isStamp t ≡ true → length t ≡ 14
 stamp-length t e =
-    let w = both (eqb (length t) 14 && every digit t) (isDTM t) e in
+    let v = both (eqb (length t) 14 && every digit t && isDTM t) (dayExists t) e in
+    let w = both (eqb (length t) 14 && every digit t) (isDTM t) (v .0) in
     eqb-true (length t) 14 (both (eqb (length t) 14) (every digit t) (w .0) .0)
 
 number-length : (t : Text) → isReplyNumber t ≡ true → length t ≤ 20
@@ -185,7 +186,7 @@ condition-small n =
     let P : ℕ → Type 0 = λ k. k < 1000 in
     picks P (isWithin (1 to 2) n) (omega arith)
     (picks P (eqb n 3) (omega arith)
-    (picks P (isWithin (4 to 7) n) (omega arith)
+    (picks P (isWithin (4 to 7) n || eqb n 13) (omega arith)
     (picks P (eqb n 8) (omega arith)
     (picks P (eqb n 9) (omega arith)
     (picks P (eqb n 10) (omega arith)

@@ -70,7 +70,7 @@ verdict-small T ok m =
       end = λ n o h. at-field n o 0 0 h (omega arith);
       missing = λ n o f h g. at-field n (suc o) f 1 h (ltb-true f 1000 g);
       surplus = λ n o f r h g. at-field n (suc o) f (suc r) h (ltb-true f 1000 g);
-      leaf = λ n o f r l h g e. let p = at-leaf n (suc o) f (suc r) l h (ltb-true f 1000 g) e in (p, (p, (p, (p, tt))));
+      leaf = λ n o f r l h g e. let p = at-leaf n (suc o) f (suc r) l h (ltb-true f 1000 g) e in (p, (p, (p, (p, (p, tt)))));
       list = λ n o f r l h g e codes why is. at-leaf n (suc o) f (suc r) l h (ltb-true f 1000 g) e;
     })
     (omega arith) (λ s. omega (arith, length-take 3 s)) m

@@ -42,7 +42,7 @@ longestReply = 1200
 -- its own tests, and those of the frame before them
 abbrev pub ownTests : Table → Text → Text → Text → ℕ → List Test
 ownTests T m stamp number room =
-    -- 11 BAD STAMP: stamp isn't 14 digits that form a DTM
+    -- 11 BAD STAMP: stamp isn't 14 digits that form a DTM whose day exists
     test BadStamp (not (isStamp stamp))
     -- 12 BAD REPLY NUMBER: not 1..20 capitals or digits
     ∷ test BadReplyNumber (not (isReplyNumber number))

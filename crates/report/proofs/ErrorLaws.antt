@@ -170,7 +170,7 @@ other-step k false false false false false false false false q h = q
 
 pub condition-other : (n k : ℕ) → k ≡ condition n → Other k → k ≡ 0
 condition-other n k q h =
-    other-step k (isWithin (1 to 2) n) (eqb n 3) (isWithin (4 to 7) n) (eqb n 8) (eqb n 9) (eqb n 10) (eqb n 11) (eqb n 12) q h
+    other-step k (isWithin (1 to 2) n) (eqb n 3) (isWithin (4 to 7) n || eqb n 13) (eqb n 8) (eqb n 9) (eqb n 10) (eqb n 11) (eqb n 12) q h
 
 -- ERR with its CR
 error-step : (p w : Text)

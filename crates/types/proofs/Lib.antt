@@ -1,1 +1,4 @@
 pub mod TypeLaws
+pub mod DayLaws
+pub mod TwosLaws
+pub mod Cases

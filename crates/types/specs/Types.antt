@@ -1,12 +1,12 @@
 -- An entry's promise is made of this.
--- What a text of a simple type looks like, and what a stamp and a reply number are.
-use Prim.Native.Nat.{ℕ, _+_, _*_, _-_}
-use mathlib.Core.Bool.{Bool, true, false, _&&_, _||_}
+-- What a text of a simple type looks like, which days there are, and what a stamp and a reply number are.
+use Prim.Native.Nat.{ℕ, _+_, _*_, _-_, _%_}
+use mathlib.Core.Bool.{Bool, true, false, not, _&&_, _||_}
 use mathlib.Core.List.{List, [], _∷_}
-use lib.ListN.{length, drop}
+use lib.ListN.{length, getD, drop}
 use lib.Dec.{eqb, leb}
 use Rattle.text.specs.Limits.{Range, _to_, isWithin}
-use Rattle.text.specs.Bytes.{Text, pick, byte, digit, capitalOrDigit, empty, every}
+use Rattle.text.specs.Bytes.{Text, pick, byte, digit, capitalOrDigit, empty, every, some}
 
 -- the digits that a text begins with, and what follows them
 unfoldable pub digits : Text → Text
@@ -91,6 +91,38 @@ isTM t =
     && twos clock (digits t)
     && (isZone (rest t) || (eqb (length (digits t)) 6 && isFraction (rest t)))
 
+-- LEAP YEARS: every fourth year, not the hundredth, but the four-hundredth
+abbrev pub isEvery : ℕ → ℕ → Bool
+isEvery n year = eqb (year % n) 0
+
+abbrev pub isLeap : ℕ → Bool
+isLeap year = isEvery 4 year && (not (isEvery 100 year) || isEvery 400 year)
+
+-- THE DAYS OF A MONTH: February has 28, in a leap year 29; April, June, September and November have 30; the others have 31
+abbrev pub daysIn : ℕ → ℕ → ℕ
+daysIn year month = pick (eqb month 2) (pick (isLeap year) 29 28) (pick (some (eqb month) (4 ∷ 6 ∷ 9 ∷ 11 ∷ [])) 30 31)
+
+-- the number that two digits of a text write, the first of them so many bytes from the start; year, month and day: YYYYMMDD
+abbrev pub twoAt : ℕ → Text → ℕ
+twoAt i t = two (getD t i 0) (getD t (i + 1) 0)
+
+abbrev pub yearOf : Text → ℕ
+yearOf t = twoAt 0 t * 100 + twoAt 2 t
+
+abbrev pub monthOf : Text → ℕ
+monthOf t = twoAt 4 t
+
+abbrev pub dayOf : Text → ℕ
+dayOf t = twoAt 6 t
+
+-- a DTM has a day where its digits go on after the month: YYYYMMDD, eight at least
+abbrev pub hasDay : Text → Bool
+hasDay t = leb 8 (length (digits t))
+
+-- THE DAY EXISTS: a DTM's month has its day, if it has one. (A day 00 is not of the form)
+abbrev pub dayExists : Text → Bool
+dayExists t = not (hasDay t) || leb (dayOf t) (daysIn (yearOf t) (monthOf t))
+
 -- how many digits a stamp has, and the greatest length of a reply number
 abbrev pub stampSize : ℕ
 stampSize = 14
@@ -98,9 +130,9 @@ stampSize = 14
 abbrev pub mostReplyNumber : ℕ
 mostReplyNumber = 20
 
--- a stamp: 14 digits that form a DTM
+-- a stamp: 14 digits that form a DTM, and its day exists
 abbrev pub isStamp : Text → Bool
-isStamp t = eqb (length t) stampSize && every digit t && isDTM t
+isStamp t = eqb (length t) stampSize && every digit t && isDTM t && dayExists t
 
 -- a reply number: 1 to 20 capitals or digits
 abbrev pub isReplyNumber : Text → Bool

@@ -1,11 +1,13 @@
-// Texts of the simple types, stamps and reply numbers.
-ghost use mathlib.Core.Bool.{true, _&&_, _||_};
+// Texts of the simple types, stamps and reply numbers; which days there are.
+mod day;
+
+ghost use mathlib.Core.Bool.{_&&_, _||_};
 ghost use mathlib.Core.Path.{_≡_};
 ghost use Prim.Native.Nat.{_≤_};
 ghost use lib.ListN.{length};
-ghost use Rattle.text.specs.Bytes.{digit, every};
-ghost use Rattle.types.specs.Types.{behindPoint, digits, isDTM, isDecimals, isFraction, isNM, isReplyNumber, isSI, isStamp, isTM, isUnsigned, isZone, sign, twos};
-ghost use Rattle.types.specs.Inner.{rangesOf};
+ghost use Rattle.types.specs.Types.{behindPoint, digits, isDTM, isDecimals, isFraction, isNM, isReplyNumber, isSI, isStamp, isTM, isUnsigned, isZone, sign};
+ghost use Rattle.types.specs.Inner.{rangesOf, twosLength};
+pub use day::day_exists;
 use text::is_capital_or_digit;
 use text::is_digit;
 
@@ -88,26 +90,25 @@ pub fn is_nm(t: &[u8]) -> bool
     is_unsigned(t)
 }
 
-// Digits two by two within the ranges, which stand as low, high, low, high.
-fn is_twos(ranges: &[u8], t: &[u8]) -> bool
-    requires { ⌜ every digit (now t) ≡ true ⌝ }
-    ensures { λ r. ⌜ r ≡ twos (rangesOf (now (ranges .entry))) (now (t .entry)) ⌝ }
+// How many bytes the text begins with that are digits two by two within the ranges, which stand as low, high, low, high.
+fn twos_len(ranges: &[u8], t: &[u8]) -> usize
+    ensures { λ r. ⌜ (r ≡ twosLength (rangesOf (now (ranges .entry))) (now (t .entry))) × (r ≤ length (now (t .entry))) ⌝ }
 {
     let mut i = 0;
-    while i < t.len() {
-        if ranges.len() - i < 2 {
-            return false;
-        }
+    while 2 <= ranges.len() - i {
         if t.len() - i < 2 {
-            return false;
+            return i;
+        }
+        if !(is_digit(t[i]) & is_digit(t[i + 1])) {
+            return i;
         }
         let n = (t[i] - b'0') * 10 + (t[i + 1] - b'0');
         if !((ranges[i] <= n) & (n <= ranges[i + 1])) {
-            return false;
+            return i;
         }
         i += 2;
     }
-    true
+    i
 }
 
 fn is_zone(t: &[u8]) -> bool
@@ -120,10 +121,7 @@ fn is_zone(t: &[u8]) -> bool
         return false;
     }
     let after = &t[1..];
-    if !is_si(after) {
-        return false;
-    }
-    is_twos(&ZONE, after)
+    twos_len(&ZONE, after) == 4
 }
 
 fn is_fraction(t: &[u8]) -> bool
@@ -141,28 +139,38 @@ fn is_fraction(t: &[u8]) -> bool
 fn is_ending(t: &[u8], seconds: bool) -> bool
     ensures { λ r. ⌜ r ≡ (isZone (now (t .entry)) || seconds && isFraction (now (t .entry))) ⌝ }
 {
-    is_zone(t) | seconds & is_fraction(t)
+    if is_zone(t) {
+        return true;
+    }
+    seconds & is_fraction(t)
 }
 
 pub fn is_dtm(t: &[u8]) -> bool
     ensures { λ r. ⌜ r ≡ isDTM (now (t .entry)) ⌝ }
 {
-    let n = digits_len(t);
-    if n < 4 {
+    if t.len() < 4 {
         return false;
     }
-    is_twos(&CALENDAR, &t[4..n]) & is_ending(&t[n..], n == 14)
+    if !is_si(&t[0..4]) {
+        return false;
+    }
+    let n = 4 + twos_len(&CALENDAR, &t[4..]);
+    // as most dates do, it ends there
+    if n == t.len() {
+        return true;
+    }
+    is_ending(&t[n..], n == 14)
 }
 
 pub fn is_tm(t: &[u8]) -> bool
     ensures { λ r. ⌜ r ≡ isTM (now (t .entry)) ⌝ }
 {
-    let n = digits_len(t);
+    let calendar: &[u8] = &CALENDAR;
+    let n = twos_len(&calendar[4..], t);
     if n < 2 {
         return false;
     }
-    let calendar: &[u8] = &CALENDAR;
-    is_twos(&calendar[4..], &t[0..n]) & is_ending(&t[n..], n == 6)
+    is_ending(&t[n..], n == 6)
 }
 
 pub fn is_stamp(t: &[u8]) -> bool
@@ -171,7 +179,10 @@ pub fn is_stamp(t: &[u8]) -> bool
     if t.len() != STAMP_SIZE {
         return false;
     }
-    is_si(t) & is_dtm(t)
+    if !(is_si(t) & is_dtm(t)) {
+        return false;
+    }
+    day_exists(t)
 }
 
 pub fn is_reply_number(t: &[u8]) -> bool

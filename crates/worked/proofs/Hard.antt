@@ -1,7 +1,7 @@
 -- The hard cases hold of the definitions.
 use mathlib.Core.Path.{refl}
 use Rattle.worked.specs.Worked.{AllHold}
-use Rattle.worked.specs.Hard.{frames, looks, escapes, types, faults, observations, replies, slips, books}
+use Rattle.worked.specs.Hard.{frames, looks, escapes, types, faults, observations, days, replies, slips, books}
 use Rattle.worked.proofs.Computing.{computing}
 use Rattle.worked.proofs.Examples.{failing, all-hold}
 
@@ -28,6 +28,10 @@ faults-hold = all-hold faults refl
 pub observations-hold : AllHold observations
 unfolding computing failing observations
 observations-hold = all-hold observations refl
+
+pub days-hold : AllHold days
+unfolding computing failing days
+days-hold = all-hold days refl
 
 pub replies-hold : AllHold replies
 unfolding computing failing replies

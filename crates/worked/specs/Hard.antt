@@ -205,6 +205,46 @@ observations =
     ∷ (desk (valued (bytes "FT") (letters 4097)) says bytes "fault OBX 1 5 1 1 1 102 5")
     ∷ []
 
+-- no such day: in each leaf that holds a date, with hours, seconds and a zone after it, and in a stamp
+unfoldable pub days : List Example
+days =
+    (desk (withPID "PID|1||A55||LANE||20240230") says bytes "fault PID 1 7 1 1 1 102 13")
+    ∷ (desk (withPID "PID|1||A55||LANE||20240229") says bytes "accepted")
+    ∷ (desk (withMSH "MSH|^~\\&||L|||20230229||ORU^R01|C7|P|2.5.1") says bytes "fault MSH 1 7 1 1 1 102 13")
+    ∷ (desk (message (msh ∷ pid ∷ "OBR|1||F9|54089-8|||202304312359" ∷ [])) says bytes "fault OBR 1 7 1 1 1 102 13")
+    ∷ (desk (withOBX "OBX|1||T||||||||F|||20230631000000.5+0100") says bytes "fault OBX 1 14 1 1 1 102 13")
+    ∷ (typed "DTM" "19000229" says bytes "fault OBX 1 5 1 1 1 102 13")
+    ∷ (typed "DTM" "20000229" says bytes "accepted")
+    ∷ (typed "DTM" "21000229-0500" says bytes "fault OBX 1 5 1 1 1 102 13")
+    -- a text without a day; a day that no month has is not of the form
+    ∷ (typed "DTM" "2023" says bytes "accepted")
+    ∷ (typed "DTM" "202302" says bytes "accepted")
+    ∷ (typed "DTM" "202302+0231" says bytes "accepted")
+    ∷ (typed "DTM" "20240231" says bytes "fault OBX 1 5 1 1 1 102 13")
+    ∷ (typed "DTM" "20240232" says bytes "fault OBX 1 5 1 1 1 102 7")
+    ∷ (typed "DTM" "20240200" says bytes "fault OBX 1 5 1 1 1 102 7")
+    ∷ (typed "DTM" "2024023024" says bytes "fault OBX 1 5 1 1 1 102 7")
+    -- other types name no day
+    ∷ (typed "ST" "20240230" says bytes "accepted")
+    ∷ (typed "NM" "20240230" says bytes "accepted")
+    ∷ (typed "TM" "23" says bytes "accepted")
+    ∷ (typed "TM" "0230" says bytes "accepted")
+    ∷ (typed "TM" "20240230" says bytes "fault OBX 1 5 1 1 1 102 7")
+    -- the year 0000 is a leap year by the rule, as every four-hundredth
+    ∷ (typed "DTM" "00000229" says bytes "accepted")
+    ∷ (typed "DTM" "01000229" says bytes "fault OBX 1 5 1 1 1 102 13")
+    -- the reply says the condition; a stamp is told as 11, before 12
+    ∷ (decimal (condition 13) says bytes "102")
+    ∷ (replyTo (withPID "PID|1||A55||LANE||20240230")
+    says message
+    ("MSH|^~\\&|DEPOT|D1|LABSYS|LAB1|20240305101501||ACK^R01^ACK|K1|P|2.5.1"
+    ∷ "MSA|AE|C7"
+    ∷ "ERR||PID^1^7^1^1^1|102^Data type error^HL70357|E"
+    ∷ []))
+    ∷ (outcome (reply profile01 M (bytes "20240230101501") [] 0) says bytes "refused 11")
+    ∷ (outcome (reply profile01 M (bytes "20240229101501") [] 0) says bytes "refused 12")
+    ∷ []
+
 -- M with the header's leaves as told
 abbrev headed : string.String → Text
 headed s = replyTo (withMSH s)
@@ -236,7 +276,7 @@ replies =
     ∷ (placeText (place (bytes "OBX") 1 0 5 0 0) says bytes "OBX^1^0^5")
     -- a number that is no reason has no condition
     ∷ (decimal (condition 0) says bytes "0")
-    ∷ (decimal (condition 13) says bytes "0")
+    ∷ (decimal (condition 14) says bytes "0")
     -- the order of refusals
     ∷ (outcome (reply profile01 [] [] [] 0) says bytes "refused 1")
     ∷ (outcome (reply profile01 M (bytes "20241305101501") [] 0) says bytes "refused 11")

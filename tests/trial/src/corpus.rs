@@ -36,9 +36,14 @@ impl Corpus {
 
     /// A reply into a buffer of that length, filled with one byte.
     pub fn reply(&mut self, message: &[u8], room: usize) {
+        self.reply_with(message, STAMP, REPLY_NUMBER, room);
+    }
+
+    /// The same with another stamp and reply number.
+    pub fn reply_with(&mut self, message: &[u8], stamp: &str, number: &str, room: usize) {
         let mut rest = Vec::new();
-        spelling::word(STAMP.as_bytes(), &mut rest);
-        spelling::word(REPLY_NUMBER.as_bytes(), &mut rest);
+        spelling::word(stamp.as_bytes(), &mut rest);
+        spelling::word(number.as_bytes(), &mut rest);
         spelling::word(&b".".repeat(room), &mut rest);
         self.push("reply", message, &rest);
     }

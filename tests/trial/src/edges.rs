@@ -10,7 +10,6 @@ use crate::order::NEAR_NAMES;
 use crate::places::{BAD_NAMES, WIDE};
 use crate::short::{GROUP, HEADER, KIN, NOTE, OBSERVATION, ORDER, PATIENT, START};
 use crate::slips::{slip, TAGS};
-use crate::spelling;
 use crate::values::{CAPITALS_AND_DIGITS, ESCAPES, NEAR_ESCAPES, NEAR_INDEXES, NEAR_MOMENTS, NEAR_NUMBERS, NEAR_TIMES};
 
 const BYTES: &[u8] = b"\x00\x01\x09\x0A\x0B\x0C\x0D\x0E\x1F\x20\x7E\x7F\x80\xA0\xFF";
@@ -99,7 +98,7 @@ fn add_types(corpus: &mut Corpus) {
         judge(corpus, &[START.as_bytes(), b"NTE|", value.as_bytes(), b"\r"]);
     }
     for kind in TYPE_FIELDS {
-        for value in VALUE_FIELDS.iter().step_by(5) {
+        for value in VALUE_FIELDS.iter().step_by(5).chain(&["20240230"]) {
             corpus.judge(&observation(kind, value));
         }
     }
@@ -157,13 +156,7 @@ fn add_places(corpus: &mut Corpus) {
 }
 
 fn add_replies(corpus: &mut Corpus) {
-    let mut reply = |stamp: &str, number: &str| {
-        let mut rest = Vec::new();
-        spelling::word(stamp.as_bytes(), &mut rest);
-        spelling::word(number.as_bytes(), &mut rest);
-        spelling::word(&[b'.'; 100], &mut rest);
-        corpus.push("reply", START.as_bytes(), &rest);
-    };
+    let mut reply = |stamp: &str, number: &str| corpus.reply_with(START.as_bytes(), stamp, number, 100);
     for stamp in BAD_STAMPS.iter().chain(NEAR_MOMENTS.iter().filter(|text| text.len() == 14)) {
         reply(stamp, REPLY_NUMBER);
     }

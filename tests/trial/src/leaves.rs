@@ -1,9 +1,10 @@
 //! Damage to leaves and fields of a draft.
 
 use crate::damage::Damage;
+use crate::dates;
 use crate::draft::{Draft, Segment};
 use crate::newer::{anything, listed_segment};
-use crate::profile::{leaves, limit, list, type_limit, Field, Leaf, Simple, TYPES};
+use crate::profile::{leaves, limit, list, type_limit, Field, Leaf, Simple, DATED, TYPES};
 use crate::random::Random;
 use crate::values::{at_limit, near, near_code, of, text, NEAR_ESCAPES};
 
@@ -67,6 +68,23 @@ fn value_edge(random: &mut Random, draft: &mut Draft) {
         *draft.segments[at].field(2) = kind.as_bytes().to_vec();
         draft.segments[at].field(5).clear();
         draft.segments[at].put(5, [1, leaf.component, 1], &value);
+    }
+}
+
+/// A day about an end of its month, in any field that has a date; OBX-5 is made one. Not every draft has an OBX, so its
+/// fields are tried oftener.
+fn day(random: &mut Random, draft: &mut Draft) {
+    let observed = random.pick(&[("OBX", 5), ("OBX", 14)]);
+    let (name, number) = if random.one_in(4) { observed } else { random.pick(DATED) };
+    let segments = draft.named(name.as_bytes());
+    if !segments.is_empty() {
+        let at = random.pick(&segments);
+        if (name, number) == ("OBX", 5) {
+            *draft.segments[at].field(2) = b"DTM".to_vec();
+            draft.segments[at].field(5).clear();
+        }
+        let value = dates::text(random);
+        draft.segments[at].put(number, [1, 1, 1], &value);
     }
 }
 
@@ -203,15 +221,16 @@ fn repetitions(random: &mut Random, draft: &mut Draft) {
 
 pub static TYPE_FIELDS: &[&str] = &[
     "", "", "CE", "DTM", "FT", "NM", "SN", "ST", "TM", "TX", "CX", "TS", "nm", "NMX", "NM X", "N", "C", "DT", "DTMX",
-    "NM^ST", "^NM", "NM&ST", "&NM", "NM~ST", "~NM", "NM~", "~", "^", "&", "\\E\\", "N\\", "TXX", "NM ", " NM", "SN^",
-    "CE^^x", "TM&",
+    "dtm", "DTM^NM", "DTM&NM", "DTM~NM", "NM^DTM", "NM~DTM", "^DTM", "&DTM", "NM^ST", "^NM", "NM&ST", "&NM", "NM~ST",
+    "~NM", "NM~", "~", "^", "&", "\\E\\", "N\\", "TXX", "NM ", " NM", "SN^", "CE^^x", "TM&",
 ];
 
 pub static VALUE_FIELDS: &[&str] = &[
     "", "^", "&", "~", "^x", "&x", "~x", "1", "1^2", "1&2", "1~2", "^1", "^^^1", "^^^x", "<^1", "<^x", "^1^-^2",
     ">^1^/^x", "A^B^C", "^B^C", "^^LN", "A^B^LN^D^E^F", "^^^^^F", "^^^^^^x", "2024", "2359", "20240230", "24", "3.1x",
     "a\\b", "\\T\\", "1^a\\b", "1&a\\b", "a^^a\\b", "1^^^^^^a\\b", "x^2", "~1", "1~", "12^y^z", "=", "<^-1.5^:^+2.",
-    "1.5^x~2",
+    "1.5^x~2", "20230229+0100", "20240229", "20240230^x", "20240230&x", "20240230~2024", "2024^20240230",
+    "2024&20240230", "20240431",
 ];
 
 /// OBX-2 against OBX-5.
@@ -269,6 +288,7 @@ pub static DAMAGES: &[Damage<Draft>] = &[
     ("length at a limit", 22, length),
     ("edge of a type", 16, type_edge),
     ("value at an edge of its type", 20, value_edge),
+    ("day about the end of its month", 64, day),
     ("escape", 10, escape),
     ("code near a list", 16, code),
     ("code of the header", 34, header_code),

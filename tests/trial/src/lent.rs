@@ -1,5 +1,6 @@
 //! What is lent and told beside a message: stamps, reply numbers, buffers, books, groups and slots.
 
+use crate::dates;
 use crate::draft::names;
 use crate::numbers::{MOST_REPLY_BYTES, SLOT_BYTES};
 use crate::random::Random;
@@ -18,11 +19,14 @@ pub static BAD_STAMPS: &[&str] = &[
 ];
 
 pub fn stamp(random: &mut Random) -> Vec<u8> {
-    let edges = ["20240230235959", "00000101000000", "99991231235959", "20240131000000"];
-    match random.below(12) {
+    let edges = ["20240229235959", "00000101000000", "99991231235959", "20240131000000"];
+    let clock = random.pick(&["000000", "101501", "235959"]);
+    match random.below(15) {
         0 => random.pick(BAD_STAMPS).as_bytes().to_vec(),
         1 => random.pick(&edges).as_bytes().to_vec(),
         2 => of(random, DIGITS, 14),
+        3 | 4 => [dates::existing(random).text(), clock.to_string()].concat().into_bytes(),
+        5 | 6 => [dates::lacking(random).text(), clock.to_string()].concat().into_bytes(),
         _ => STAMP.as_bytes().to_vec(),
     }
 }

@@ -4,7 +4,8 @@
 //!
 //! - `corpus` prints the calls that are stored beside those written by hand: some are about the sample messages of a
 //!   folder, some are random.
-//! - `table` counts the answers to stored calls. It ends with status 1 where a refusal or a reason is met too seldom.
+//! - `table` counts the answers to stored calls. It ends with status 1 where a refusal or a reason is met too seldom, or
+//!   a day that there is not in one of the fields with a date or in a stamp.
 //! - `calls` prints random calls.
 //! - `fuzz` hands random calls to another program and compares its answers with the second program's. It ends when the
 //!   time is over, or with status 1 at the first difference, which it saves in a folder.
@@ -17,6 +18,7 @@
 //! - `numbers`: document 01's numbers outside the profile
 //! - `profile`: its profile: listed fields and leaves with their types, limits and lists
 //! - `random`: random numbers from a seed
+//! - `dates`: dates about the ends of months and about leap years
 //! - `spelling`: the words of calls and answers, and the second program's answer to a call
 //!
 //! Values and messages:
@@ -44,6 +46,7 @@
 //! The stored calls:
 //! - `corpus`: calls gathered line by line
 //! - `edges`: every edge once, on short messages
+//! - `days`: the same of the rule that a month must have its day
 //! - `stored`: all that are stored
 //!
 //! Answers compared and counted:
@@ -60,6 +63,8 @@
 mod child;
 mod corpus;
 mod damage;
+mod dates;
+mod days;
 mod draft;
 mod edges;
 mod frame;
@@ -113,7 +118,7 @@ fn number(word: &str) -> Result<u64, String> {
     word.parse().map_err(|_| format!("{} is no number", word))
 }
 
-/// True if every refusal and every reason is met often enough.
+/// True if every refusal, every reason and every case counted apart is met often enough.
 fn table(calls: &str, answers: &str) -> Result<bool, String> {
     let read = |path: &str| fs::read(path).map(Lines::of).map_err(|error| format!("{}: {}", path, error));
     let (calls, answers) = (read(calls)?, read(answers)?);

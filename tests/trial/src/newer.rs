@@ -1,5 +1,6 @@
 //! What a newer sender adds: segments, fields, components and subcomponents that the profile does not list.
 
+use crate::dates;
 use crate::draft::{Draft, Segment, WITHIN_FIELD};
 use crate::profile::{fields_of, leaves, Field};
 use crate::random::Random;
@@ -11,12 +12,14 @@ pub static UNLISTED: &[&str] = &["ZZX", "PV1", "PD1", "SPM", "TQ1", "EVN", "Z00"
 pub fn anything(random: &mut Random, separators: &[u8]) -> Vec<u8> {
     let mut out = Vec::new();
     for _ in 0..random.between(0, 4) {
-        match random.below(4) {
+        match random.below(5) {
             0 => out.extend_from_slice(random.pick(NEAR_ESCAPES).as_bytes()),
             1 if !separators.is_empty() => {
                 let length = random.between(1, 3);
                 out.extend(of(random, separators, length));
             }
+            // a day that there is not, where nobody asks
+            2 if out.is_empty() => out.extend(dates::lacking(random).text().into_bytes()),
             _ => {
                 let length = random.between(1, 6);
                 out.extend(text(random, length));

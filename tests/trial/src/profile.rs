@@ -149,6 +149,9 @@ pub fn type_limit(simple: Simple) -> usize {
 
 pub static TYPES: &[&str] = &["CE", "DTM", "FT", "NM", "SN", "ST", "TM", "TX"];
 
+/// The fields with a leaf of type DTM; OBX-5 is one where OBX-2 names that type.
+pub static DATED: &[(&str, usize)] = &[("MSH", 7), ("PID", 7), ("OBR", 7), ("OBX", 5), ("OBX", 14)];
+
 /// The codes allowed at a leaf; none where any text is.
 pub fn list(name: &str, number: usize, component: usize) -> &'static [&'static str] {
     match (name, number, component) {
@@ -212,6 +215,14 @@ mod tests {
         assert!(FIELDS.iter().all(|field| field.kind == "*" || KINDS.iter().any(|row| row.0 == field.kind)));
         assert_eq!(leaves("*").len(), 1);
         assert_eq!(leaves("*")[0].simple, Short);
+    }
+
+    #[test]
+    fn fields_with_a_date_are_all_named() {
+        let has_date = |field: &&Field| field.kind == "*" || leaves(field.kind).iter().any(|leaf| leaf.simple == Dtm);
+        let found: Vec<(&str, usize)> =
+            FIELDS.iter().filter(has_date).map(|field| (field.name, field.number)).collect();
+        assert_eq!(found, DATED);
     }
 
     #[test]

@@ -32,10 +32,15 @@ pub fn last_string(line: &[u8]) -> Option<Vec<u8>> {
     }
 }
 
+/// The string that a word of a line is, counted from 0.
+pub fn string_at(line: &[u8], at: usize) -> Option<Vec<u8>> {
+    let word = line.split(|byte| *byte == b' ').nth(at)?;
+    second::calls::unspell(word)
+}
+
 /// The first string of a call: the message, text or book.
 pub fn first_string(line: &[u8]) -> Option<Vec<u8>> {
-    let word = line.split(|byte| *byte == b' ').nth(1)?;
-    second::calls::unspell(word)
+    string_at(line, 1)
 }
 
 /// The number of bytes that a reply or resolving wrote.

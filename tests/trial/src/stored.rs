@@ -1,9 +1,10 @@
-//! The calls that are stored: worked messages, samples, the greatest sizes, the tour, the edges, random ones.
+//! The calls that are stored: worked messages, samples, the greatest sizes, the tour, the edges and days, random ones.
 
 use std::fs;
 use std::path::PathBuf;
 
 use crate::corpus::Corpus;
+use crate::days;
 use crate::draft::names;
 use crate::edges;
 use crate::generator::Generator;
@@ -191,6 +192,7 @@ pub fn make(samples: &str, seed: u64) -> Result<Corpus, String> {
     add_sizes(&mut corpus);
     add_tour(&mut corpus);
     edges::add(&mut corpus);
+    days::add(&mut corpus);
     add_random(&mut corpus, seed);
     for line in ["judge", "what =x", "look =MSH =PID 1 1"] {
         corpus.lines.push(line.as_bytes().to_vec());

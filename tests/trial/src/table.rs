@@ -3,9 +3,12 @@
 use std::collections::BTreeMap;
 use std::fmt;
 
-use crate::numbers::{REASONS, REFUSALS};
+use crate::dates;
+use crate::numbers::{BAD_STAMP, NO_SUCH_DAY, REASONS, REFUSALS};
+use crate::profile::DATED;
+use crate::spelling;
 
-/// Each refusal and each reason must be met so often.
+/// Each refusal and each reason must be met so often, and so must each of the cases that are counted apart.
 pub const ENOUGH: usize = 20;
 
 /// The entries, and last what is no call.
@@ -19,11 +22,22 @@ pub struct Table {
     /// By number; the place 0 is not used.
     pub refusals: [usize; REFUSALS + 1],
     pub reasons: [usize; REASONS + 1],
+    /// Faults of a day that there is not, by the fields that have a date.
+    pub days: BTreeMap<(String, usize), usize>,
+    /// Stamps refused for their day alone.
+    pub stamps: usize,
     pub calls: usize,
 }
 
 fn number(word: Option<&[u8]>) -> usize {
     word.and_then(|word| std::str::from_utf8(word).ok()).and_then(|word| word.parse().ok()).unwrap_or(0)
+}
+
+/// The name and the field of a fault's place.
+fn field_of(answer: &[u8]) -> (String, usize) {
+    let words: Vec<&[u8]> = answer.split(|byte| *byte == b' ').collect();
+    let name = words.get(1).map_or(String::new(), |name| String::from_utf8_lossy(name).into_owned());
+    (name, number(words.get(3).copied()))
 }
 
 impl Table {
@@ -50,8 +64,8 @@ impl Table {
             return false;
         }
         match &sort[..] {
-            "refused" => self.refusals[detail] += 1,
-            "fault" => self.reasons[detail] += 1,
+            "refused" => self.refuse(call, detail),
+            "fault" => self.find(answer, detail),
             _ => (),
         }
         self.calls += 1;
@@ -59,13 +73,36 @@ impl Table {
         true
     }
 
+    fn refuse(&mut self, call: &[u8], refusal: usize) {
+        self.refusals[refusal] += 1;
+        if refusal == BAD_STAMP {
+            let stamp = spelling::string_at(call, 2).unwrap_or_default();
+            self.stamps += usize::from(dates::is_wrong_by_day_alone(&stamp));
+        }
+    }
+
+    fn find(&mut self, answer: &[u8], reason: usize) {
+        self.reasons[reason] += 1;
+        if reason == NO_SUCH_DAY {
+            *self.days.entry(field_of(answer)).or_insert(0) += 1;
+        }
+    }
+
+    /// The cases counted apart: a title, and how often each is met.
+    fn cases(&self) -> Vec<(String, usize)> {
+        let met = |name: &str, field: usize| self.days.get(&(name.to_string(), field)).copied().unwrap_or(0);
+        let days = DATED
+            .iter()
+            .map(|(name, field)| (format!("reason {} in {}-{}", NO_SUCH_DAY, name, field), met(name, *field)));
+        days.chain([(format!("refusal {} for the day alone", BAD_STAMP), self.stamps)]).collect()
+    }
+
     /// What is met too seldom.
     pub fn lacking(&self) -> Vec<String> {
-        let refusals =
-            (1..=REFUSALS).filter(|number| self.refusals[*number] < ENOUGH).map(|number| format!("refusal {}", number));
-        let reasons =
-            (1..=REASONS).filter(|number| self.reasons[*number] < ENOUGH).map(|number| format!("reason {}", number));
-        refusals.chain(reasons).collect()
+        let refusals = (1..=REFUSALS).map(|number| (format!("refusal {}", number), self.refusals[number]));
+        let reasons = (1..=REASONS).map(|number| (format!("reason {}", number), self.reasons[number]));
+        let all = refusals.chain(reasons).chain(self.cases());
+        all.filter(|(_, count)| *count < ENOUGH).map(|(title, _)| title).collect()
     }
 }
 
@@ -92,6 +129,9 @@ impl fmt::Display for Table {
         for number in 1..=REASONS {
             writeln!(out, "reason  {:>2} {:>9}", number, self.reasons[number])?;
         }
+        for (title, count) in self.cases() {
+            writeln!(out, "{:<28} {:>9}", title, count)?;
+        }
         writeln!(out, "calls      {:>9}", self.calls)
     }
 }
@@ -108,9 +148,22 @@ mod tests {
         assert!(table.add(b"reply =x = = =aa", b"refused 4 =aa"));
         assert!(table.add(b"judge", b"no call"));
         assert!(!table.add(b"judge =x", b"refused 21"));
+        assert!(!table.add(b"judge =x", b"fault OBX 1 5 1 1 1 102 14"));
         assert!(!table.add(b"judge =x", b"perhaps"));
         assert_eq!((table.refusals[4], table.reasons[7], table.calls), (2, 1, 4));
-        assert_eq!(table.lacking().len(), REFUSALS + REASONS);
+        assert_eq!(table.lacking().len(), REFUSALS + REASONS + table.cases().len());
         assert!(table.to_string().contains("no call"));
+    }
+
+    #[test]
+    fn days_that_there_are_not_are_counted_apart() {
+        let mut table = Table::default();
+        assert!(table.add(b"judge =x", b"fault OBX 12 14 1 1 1 102 13"));
+        assert!(table.add(b"judge =x", b"fault OBX 12 14 1 1 1 102 7"));
+        assert!(table.add(b"reply =x =20240230101501 =K1 =aa", b"refused 11 =aa"));
+        assert!(table.add(b"reply =x =20240230101561 =K1 =aa", b"refused 11 =aa"));
+        assert!(table.add(b"reply =x =20240230101501 =K1 =aa", b"refused 4 =aa"));
+        assert_eq!(table.days.get(&("OBX".to_string(), 14)), Some(&1));
+        assert_eq!((table.reasons[13], table.refusals[11], table.stamps), (1, 2, 1));
     }
 }

@@ -1,9 +1,12 @@
 //! The generator as a whole, held against the second program.
 
+use crate::dates::{self, Date};
+use crate::days;
+use crate::draft::Draft;
 use crate::generator::Generator;
 use crate::large;
 use crate::numbers::{MOST_BYTES, MOST_SEGMENTS, SLOT_BYTES};
-use crate::profile::TYPES;
+use crate::profile::{DATED, TYPES};
 use crate::round::Round;
 use crate::slips;
 use crate::spelling;
@@ -53,6 +56,53 @@ fn good_messages_are_accepted() {
     assert!(refused.is_empty(), "{} of 2000", refused.len());
 }
 
+/// The days that stand in the fields of a draft that have a date.
+fn dates_of(draft: &Draft) -> Vec<Date> {
+    let mut found = Vec::new();
+    for segment in &draft.segments {
+        for (_, number) in DATED.iter().filter(|(name, _)| segment.name == name.as_bytes()) {
+            let text = String::from_utf8(segment.text(*number)).unwrap_or_default();
+            let part = |at: usize, end: usize| text.get(at..end).and_then(|digits| digits.parse().ok());
+            if let (Some(year), Some(month), Some(day)) = (part(0, 4), part(4, 6), part(6, 8)) {
+                found.push(Date::new(year, month, day));
+            }
+        }
+    }
+    found
+}
+
+#[test]
+fn good_messages_often_have_the_last_day_of_a_month() {
+    let mut generator = Generator::new(12);
+    let dates: Vec<Date> = (0..1_000).flat_map(|_| dates_of(&generator.good_message(0))).collect();
+    let last = dates.iter().filter(|date| date.day == dates::days(date.year, date.month)).count();
+    let leap = dates.iter().filter(|date| (date.month, date.day) == (2, 29)).count();
+    assert!(last > 500 && leap > 100, "{} and {} of {}", last, leap, dates.len());
+}
+
+#[test]
+fn days_are_judged_by_the_calendar() {
+    let leap_days = dates::YEARS.iter().map(|year| Date::new(*year, 2, 29));
+    for date in days::about_month_ends().into_iter().chain(leap_days) {
+        let formed = (1..=12).contains(&date.month) && (1..=31).contains(&date.day);
+        for (name, number) in DATED {
+            let expected = match (formed, date.is_lacking()) {
+                (false, _) => format!("fault {} 1 {} 1 1 1 102 7", name, number),
+                (true, true) => format!("fault {} 1 {} 1 1 1 102 13", name, number),
+                (true, false) => "accepted".to_string(),
+            };
+            assert_eq!(judged(&days::with((name, *number), &date.text())), expected, "{}", date.text());
+        }
+    }
+}
+
+#[test]
+fn where_no_date_stands_no_day_is_asked_for() {
+    for field in days::ELSEWHERE {
+        assert_eq!(judged(&days::with(*field, "20240230")), "accepted", "{}-{}", field.0, field.1);
+    }
+}
+
 #[test]
 fn additions_leave_most_messages_accepted() {
     let mut generator = Generator::new(4);
@@ -99,7 +149,7 @@ fn every_kind_of_damage_is_reached() {
 fn every_refusal_and_reason_is_met_often() {
     let mut generator = Generator::new(6);
     let mut table = Table::default();
-    while table.calls < 6_000 {
+    while table.calls < 20_000 {
         for line in generator.bundle().lines() {
             assert!(table.add(&line, &spelling::answer(&line)), "{}", String::from_utf8_lossy(&line));
         }

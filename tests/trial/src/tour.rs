@@ -2,7 +2,7 @@
 
 use crate::draft::{put, Draft, Segment, WITHIN_FIELD};
 use crate::profile::{fields_of, leaves, limit, list, Field, Leaf, Simple, FIELDS, NAMES, TYPES};
-use crate::values::{LONGEST_MOMENT, LONGEST_TIME};
+use crate::values::{LONGEST_LACKING, LONGEST_MOMENT, LONGEST_TIME};
 
 /// A short value that the leaf allows.
 fn plain(field: &Field, leaf: &Leaf) -> Vec<u8> {
@@ -49,7 +49,8 @@ fn altered(draft: &Draft, field: &Field, change: impl Fn(&mut Vec<u8>)) -> Vec<u
     copy.write()
 }
 
-/// A leaf empty, at its limit, one over it, with an escape cut short, and not of its type or list.
+/// A leaf empty, at its limit, one over it, with an escape cut short, and not of its type or list; of a date also days
+/// that there are not.
 fn of_leaf(draft: &Draft, field: &Field, leaf: &Leaf) -> Vec<Vec<u8>> {
     let most = limit(field, leaf.simple);
     let longest = match leaf.simple {
@@ -59,7 +60,10 @@ fn of_leaf(draft: &Draft, field: &Field, leaf: &Leaf) -> Vec<Vec<u8>> {
         _ => b"x".repeat(most),
     };
     let over = [&longest[..], b"1"].concat();
-    let values = [&b""[..], &longest, &over, b"\\E", b"1x"];
+    let mut values = vec![&b""[..], &longest, &over, b"\\E", b"1x"];
+    if leaf.simple == Simple::Dtm {
+        values.extend([LONGEST_LACKING, b"20230229"]);
+    }
     let place = [1, leaf.component, leaf.subcomponent];
     values.iter().map(|value| altered(draft, field, |text| *text = put(text, WITHIN_FIELD, &place, value))).collect()
 }

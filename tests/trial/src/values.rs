@@ -1,5 +1,6 @@
 //! Values of leaves: good ones, ones at a limit, and ones that are nearly good.
 
+use crate::dates;
 use crate::profile::Simple;
 use crate::random::Random;
 
@@ -80,17 +81,11 @@ fn zone(random: &mut Random, out: &mut Vec<u8>) {
     two(out, minute);
 }
 
+/// A moment on a day that there is: a year, and as many of month, day and the clock's parts as `steps` says.
 fn moment(random: &mut Random) -> Vec<u8> {
-    let mut out = of(random, DIGITS, 4);
     let steps = random.between(0, 6);
-    if steps > 0 {
-        let month = random.between(1, 12);
-        two(&mut out, month);
-    }
-    if steps > 1 {
-        let day = if random.one_in(4) { random.pick(&[1, 29, 30, 31]) } else { random.between(1, 28) };
-        two(&mut out, day);
-    }
+    let mut out = dates::existing(random).text().into_bytes();
+    out.truncate(4 + 2 * steps.min(2));
     clock(random, &mut out, steps.saturating_sub(2));
     if random.one_in(3) {
         zone(random, &mut out);
@@ -118,6 +113,8 @@ pub fn good(random: &mut Random, simple: Simple, limit: usize) -> Vec<u8> {
         Simple::Nm => number(random),
         Simple::Dtm => moment(random),
         Simple::Tm => time(random),
+        // no other type asks whether there is such a day
+        _ if limit >= 8 && random.one_in(25) => dates::lacking(random).text().into_bytes(),
         _ => {
             let usual = random.between(1, 9).min(limit);
             let length = match random.below(40) {
@@ -134,6 +131,8 @@ pub fn good(random: &mut Random, simple: Simple, limit: usize) -> Vec<u8> {
 /// Values that have every part of their type, and so are as long as its limit.
 pub const LONGEST_MOMENT: &[u8] = b"20240131235959.1234+1459";
 pub const LONGEST_TIME: &[u8] = b"235959.1234-1459";
+/// The same on a day that there is not.
+pub const LONGEST_LACKING: &[u8] = b"20240231235959.1234+1459";
 
 /// A value one below, at, or one above its limit; of its type where a value of such a length can be.
 pub fn at_limit(random: &mut Random, simple: Simple, limit: usize) -> Vec<u8> {
@@ -162,21 +161,23 @@ pub fn at_limit(random: &mut Random, simple: Simple, limit: usize) -> Vec<u8> {
 
 pub static NEAR_MOMENTS: &[&str] = &[
     "2024", "20240", "202400", "202401", "202412", "202413", "20240100", "20240101", "20240131", "20240132",
-    "20240230", "2024010100", "2024010123", "2024010124", "202401012359", "202401012360", "20240101235959",
-    "20240101235960", "20240101235959.", "20240101235959.1", "20240101235959.12", "20240101235959.123",
-    "20240101235959.1234", "20240101235959.12345", "20240101235959.12a", "2024+0000", "2024-0000", "2024+1459",
-    "2024+1500", "2024-1460", "2024-1400", "2024+", "2024-", "2024+0", "2024+01", "2024+010", "2024+01000",
-    "20240101-0500", "202401011+0500", "2024 ", " 2024", "2024.5", "202401.5", "2024010123.5", "202401012359.5",
-    "0000", "9999", "000001", "202", "2", "A024", "20A4", "2024++000", "2024+-100", "+0100", "-", ".",
-    "2024+0100+0100", "20240101T10", "20240101235959.+0100", "20240101235959.1234+1459", "20240101235959+1459",
-    "2024010123595", "202401012", "2024013", "202401-0100", "2024/1", "2024\\E\\", "2024:1",
+    "20240230", "20240229", "20230229", "20240431", "2024023123", "20240230+0100", "2024010100", "2024010123",
+    "2024010124", "202401012359", "202401012360", "20240101235959", "20240101235960", "20240101235959.",
+    "20240101235959.1", "20240101235959.12", "20240101235959.123", "20240101235959.1234", "20240101235959.12345",
+    "20240101235959.12a", "2024+0000", "2024-0000", "2024+1459", "2024+1500", "2024-1460", "2024-1400", "2024+",
+    "2024-", "2024+0", "2024+01", "2024+010", "2024+01000", "20240101-0500", "202401011+0500", "2024 ", " 2024",
+    "2024.5", "202401.5", "2024010123.5", "202401012359.5", "0000", "9999", "000001", "202", "2", "A024", "20A4",
+    "2024++000", "2024+-100", "+0100", "-", ".", "2024+0100+0100", "20240101T10", "20240101235959.+0100",
+    "20240101235959.1234+1459", "20240101235959+1459", "2024010123595", "202401012", "2024013", "202401-0100",
+    "2024/1", "2024\\E\\", "2024:1",
 ];
 
 pub static NEAR_TIMES: &[&str] = &[
     "00", "23", "24", "29", "2", "235", "2359", "2360", "0060", "235959", "235960", "23595", "235959.", "235959.1",
     "235959.12", "235959.1234", "235959.12345", "23.5", "2359.5", "23+0000", "23-0000", "23+1459", "23+1500",
     "23+1460", "23+", "23+14", "23+145", "23+14590", "235959.1234+1459", "235959+1400", "+0100", "-", "235959.+0100",
-    "2 ", " 23", "ab", "2a", "23:59", "20240101", "23\\F\\",
+    "2 ", " 23", "ab", "2a", "23:59", "20240101", "23\\F\\", "0230", "0231", "202302", "190002.29", "202302+0031",
+    "20240230", "20230229", "20230229+0100",
 ];
 
 pub static NEAR_NUMBERS: &[&str] = &[
@@ -211,6 +212,9 @@ fn loose(random: &mut Random, simple: Simple) -> Vec<u8> {
 
 /// A value on the edge of its type.
 pub fn near(random: &mut Random, simple: Simple) -> Vec<u8> {
+    if simple == Simple::Dtm && random.one_in(3) {
+        return dates::text(random);
+    }
     if random.one_in(4) && matches!(simple, Simple::Si | Simple::Nm | Simple::Dtm | Simple::Tm) {
         return loose(random, simple);
     }

@@ -2,7 +2,8 @@
 
 use crate::draft::{Draft, Segment};
 
-fn segment(line: &str) -> Segment {
+/// A segment from its line without CR.
+pub fn segment(line: &str) -> Segment {
     let mut parts = line.split('|').map(|part| part.as_bytes().to_vec());
     let name = parts.next().unwrap_or_default();
     // a draft's header starts with MSH-3

@@ -1,53 +1,38 @@
--- `is_tm`: the digits, their ranges, and what follows them.
+-- `is_tm`: the twos, and what follows them.
+use mathlib.Core.Path.{sym, _∙_}
 use borrow.Author.Tests.{le-leb, lt-leb}
 use borrow.Author.Needs.{needs}
-use lib.ListN.{length}
-use Rattle.types.specs.Types.{digits}
+use Rattle.text.proofs.Lists.{part-rest}
 use Rattle.types.specs.Inner.{rangesOf}
-use Rattle.types.proofs.TypeLaws.{part-every, part-of-digits, part-after-digits}
+use Rattle.types.proofs.TwosLaws.{time-read}
 use Rattle.types.proofs.is_tm.Statement.{statement}
 use Rattle.types.proofs.is_tm.Tie as tie
 
 returns : tie.Need-returns
+unfolding rangesOf
 returns c =
-    let t = c .before .before .before .args .t .now in
-    let e = lt-leb 2 (length (digits t)) (search needs) in rw e
-
-is-twos-requires : tie.Need-is-twos-requires
-is-twos-requires c κs =
-    let known = c .before .before .before .before in
-    part-every 0 (known .before .before .args .t .now) (known .digits-len .result) (known .digits-len .ensures .0)
+    let n = c .before .twos-len in
+    let t = c .before .before .before .before .before .args .t .now in
+    sym (time-read t (n .result) (n .ensures .0) ∙ rw (lt-leb 2 (n .result) (c .if1 .taken)))
 
 returns-2 : tie.Need-returns-2
 unfolding rangesOf
 returns-2 c =
-    let known = c .before .before .before .before .before .before .before in
-    let t = known .before .before .args .t .now in
-    let n = known .digits-len in
-    let e = le-leb 2 (length (digits t)) (search needs) in
-    rw (
-      e,
-      c .before .before .is-twos .ensures,
-      c .is-ending .ensures,
-      part-of-digits 0 t (n .result) (n .ensures .0),
-      part-after-digits t (n .result) (n .ensures .0),
-      n .ensures .0,
-    )
+    let some = c .before .before in
+    let n = some .before .twos-len in
+    let t = some .before .before .before .before .before .args .t .now in
+    c .is-ending .ensures ∙ rw (part-rest (n .result) t) (sym (time-read t (n .result) (n .ensures .0) ∙ rw (le-leb 2 (n .result) (some .if1 .left))))
 
 pub is-tm-spec : {M : Type 1} → statement M
 is-tm-spec =
     tie.close
     (tie.spec
+    (λ c. search needs)
+    (λ c. search needs)
+    (λ c. search needs)
+    (λ c. search needs)
     (λ c κs. search needs)
     returns
-    (λ c. search needs)
-    (λ c. search needs)
-    (λ c. search needs)
-    (λ c. search needs)
-    (λ c. search needs)
-    (λ c. search needs)
-    (λ c. search needs)
-    is-twos-requires
     (λ c. search needs)
     (λ c. search needs)
     (λ c. search needs)

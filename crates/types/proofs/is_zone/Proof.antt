@@ -1,16 +1,20 @@
--- `is_zone`: sign and length, then the digits, then their ranges.
+-- `is_zone`: sign and length, then the digits and their ranges.
 use mathlib.Core.Path.{_≡_, refl, sym, ap, _∙_}
 use mathlib.Core.Bool.{Bool, true, false, _&&_}
 use mathlib.Core.List.{[], _∷_}
-use borrow.Author.Tests.{not-true, not-false}
+use Prim.Native.Nat.{ℕ}
+use native.Mathlib.Omega.{arith}
+use borrow.Author.Tests.{not-true, not-false, eqb-true}
 use borrow.Author.Needs.{needs}
 use lib.Dec.{eqb}
 use lib.ListN.{length, getD, drop}
 use Rattle.text.specs.Bytes.{Text, digit, every}
-use Rattle.types.specs.Types.{isZone, sign, twos, zone}
-use Rattle.types.specs.Inner.{rangesOf}
-use Rattle.types.proofs.TypeLaws.{no-bytes}
+use Rattle.text.proofs.Tests.{both}
 use Rattle.text.proofs.Lists.{part-rest}
+use Rattle.types.specs.Types.{isZone, sign, twos, zone}
+use Rattle.types.specs.Inner.{rangesOf, twosLength}
+use Rattle.types.proofs.TypeLaws.{no-bytes}
+use Rattle.types.proofs.TwosLaws.{length-all}
 use Rattle.types.proofs.is_zone.Statement.{statement}
 use Rattle.types.proofs.is_zone.Tie as tie
 
@@ -20,10 +24,19 @@ tested : (t : Text) (s b : Bool) → (length t ≡ 0 → ⊥) → s ≡ sign (ge
 tested [] s b h e f = absurd (h refl)
 tested (x ∷ t) s b h e f = ap (λ y. y && every digit t && twos zone t) (ap (λ y. y && eqb (length (x ∷ t)) 5) (sym e) ∙ f)
 
--- so do the digits
-digits-tested : (t u : Text) (s b : Bool) → (length t ≡ 0 → ⊥) → s ≡ sign (getD t 0 0) → s && eqb (length t) 5 ≡ true
-    → u ≡ drop 1 t → every digit u ≡ b → isZone t ≡ b && twos zone u
-digits-tested t u s b h e f p d = tested t s true h e f ∙ rw (← p, d)
+-- so many bytes after the sign
+four-left : (t : Text) → length t ≡ 5 → length (drop 1 t) ≡ 4
+four-left [] e = absurd (omega arith)
+four-left (x ∷ t) e = omega arith
+
+-- as many of them as there are must be twos
+counted : (t u : Text) (s : Bool) (n : ℕ) → (length t ≡ 0 → ⊥) → s ≡ sign (getD t 0 0) → s && eqb (length t) 5 ≡ true
+    → u ≡ drop 1 t → n ≡ twosLength zone u → eqb n 4 ≡ isZone t
+counted t u s n h e f p q =
+    let five = eqb-true (length t) 5 (both s (eqb (length t) 5) f .1) in
+    ap (λ k. eqb k 4) (q ∙ ap (twosLength zone) p)
+    ∙ ap (eqb (twosLength zone (drop 1 t))) (sym (four-left t five))
+    ∙ sym (tested t s true h e f ∙ length-all zone (drop 1 t))
 
 returns : tie.Need-returns
 returns c = ap isZone (no-bytes (c .before .before .args .t .now) (c .if1 .taken))
@@ -34,44 +47,21 @@ returns-2 c =
     sym (tested (at .before .before .args .t .now) _ false (at .if1 .left) (c .before .is-sign .ensures) (not-true _ (c .if2 .taken)))
 
 returns-3 : tie.Need-returns-3
+unfolding rangesOf
 returns-3 c =
     let known = c .before .before .before in
     let at = known .before .before .before in
     let t = at .before .before .args .t .now in
-    sym
-    (digits-tested
+    counted
     t
     _
     (known .before .is-sign .result)
-    false
+    (c .twos-len .result)
     (at .if1 .left)
     (known .before .is-sign .ensures)
     (not-false _ (known .if2 .left))
     (part-rest 1 t)
-    (sym (c .before .is-si .ensures) ∙ not-true _ (c .if3 .taken)))
-
-is-twos-requires : tie.Need-is-twos-requires
-is-twos-requires c κs = sym (c .before .before .is-si .ensures) ∙ not-false _ (c .before .if3 .left)
-
-returns-4 : tie.Need-returns-4
-unfolding rangesOf
-returns-4 c =
-    let tested = c .before .before in
-    let known = tested .before .before .before in
-    let at = known .before .before .before in
-    let t = at .before .before .args .t .now in
-    c .is-twos .ensures
-    ∙ sym
-    (digits-tested
-    t
-    _
-    (known .before .is-sign .result)
-    true
-    (at .if1 .left)
-    (known .before .is-sign .ensures)
-    (not-false _ (known .if2 .left))
-    (part-rest 1 t)
-    (sym (tested .before .is-si .ensures) ∙ not-false _ (tested .if3 .left)))
+    (c .twos-len .ensures .0)
 
 pub is-zone-spec : {M : Type 1} → statement M
 is-zone-spec =
@@ -84,8 +74,6 @@ is-zone-spec =
     (λ c. search needs)
     (λ c. search needs)
     (λ c. search needs)
-    (λ c κs. search needs)
-    returns-3
     (λ c. search needs)
-    is-twos-requires
-    returns-4)
+    (λ c κs. search needs)
+    returns-3)

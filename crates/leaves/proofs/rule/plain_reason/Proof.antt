@@ -41,7 +41,7 @@ returns-4 c q good =
     let x = y .before .before in
     let a = x .before .before .before .args in
     rule-type q (a .table .now) (a .at) (a .s .now) (x .if1 .left) (y .if3 .left) false (sym (plain-good q (a .table .now) (a .at) (a .s .now) good (y .if3 .left))) refl
-    _ (c .before .is-of-type .ensures) (c .if4 .taken)
+    _ (c .before .type-reason .ensures) (c .if4 .taken)
 
 -- the lists stand in front of the rows
 inside : (c : tie.After-shared-slice-known6) → let a = c .before .before .before .before .before .before .before .before .before .args in
@@ -68,7 +68,7 @@ returns-5 c q good =
     let o = x .before .before .before in
     let a = o .args in
     rule-list q (a .table .now) (a .at) (a .s .now) (x .if1 .left) (y .if3 .left) false (sym (plain-good q (a .table .now) (a .at) (a .s .now) good (y .if3 .left))) refl
-    _ (w .before .is-of-type .ensures) (w .if4 .left) _ (v .before .is-in-list .ensures) (v .if5 .taken) (o .pre .1)
+    _ (w .before .type-reason .ensures) (w .if4 .left) _ (v .before .is-in-list .ensures) (v .if5 .taken) (o .pre .1)
 
 returns-6 : tie.Need-returns-6
 returns-6 c q good =
@@ -78,7 +78,7 @@ returns-6 c q good =
     let o = x .before .before .before in
     let a = o .args in
     rule-good q (a .table .now) (a .at) (a .s .now) (x .if1 .left) (y .if3 .left) false (sym (plain-good q (a .table .now) (a .at) (a .s .now) good (y .if3 .left))) refl
-    _ (w .before .is-of-type .ensures) (w .if4 .left) _ (c .before .is-in-list .ensures) (c .if5 .left)
+    _ (w .before .type-reason .ensures) (w .if4 .left) _ (c .before .is-in-list .ensures) (c .if5 .left)
 
 pub plain-reason-spec : {M : Type 1} → statement M
 plain-reason-spec =
