@@ -18,6 +18,7 @@ use Rattle.parts.proofs.Descent.{within-piece}
 use Rattle.parts.proofs.Join.{split-one}
 use Rattle.profile.specs.Table.{Simple, SI, NM, DTM, TM, ST, TX, FT, ID, IS, Codes, any, only, Leaf, ofType, noSuchDay}
 use Rattle.profile.specs.Order.{takesAny, hasNoList, takesUpTo}
+use Rattle.profile.proofs.Days.{only-dates}
 use Rattle.codes.specs.Inner.{SureUpTo, sure}
 use Rattle.checks.specs.Place.{Place, place}
 use Rattle.checks.specs.Repetition.{leafIn}
@@ -42,15 +43,10 @@ any-type ID t e = refl
 any-type IS t e = refl
 
 any-day : (k : Simple) (t : Text) → takesAny k ≡ true → noSuchDay k t ≡ false
-any-day SI t e = refl
-any-day NM t e = refl
-any-day DTM t e = no e
-any-day TM t e = refl
-any-day ST t e = refl
-any-day TX t e = refl
-any-day FT t e = refl
-any-day ID t e = refl
-any-day IS t e = refl
+any-day k t e = not-date (noSuchDay k t) refl where
+  not-date : (b : Bool) → noSuchDay k t ≡ b → b ≡ false
+  not-date true h = no (rw (only-dates k t h) at e)
+  not-date false h = refl
 
 any-code : (p : Place) (l : Codes) (t : Text) → hasNoList l ≡ true → firstBroken (listChecks p l t) ≡ accepted
 unfolding firstBroken
