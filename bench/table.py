@@ -16,7 +16,7 @@ PATIENT = b"PID|1||A55||LANE^JANE||20240301\r"
 GROUP = b"OBR|1||F9|54089-8^Panel^LN|||20240304\r"
 RESULT = b"OBX|1|NM|45222-7^C4-DC^LN||3.16|umol/L|||||F\r"
 M = HEADER + PATIENT + GROUP + RESULT
-ENTRIES = ["frame", "judge", "look", "reply", "file"]
+ENTRIES = ["frame", "judge", "look", "reply", "short", "file"]
 PAIRS = [f"{entry}, {who}" for entry in ENTRIES for who in ("ours", "second")]
 MOST = 65535
 
@@ -77,6 +77,7 @@ HARD = [
     ("a result of 65,000 subcomponent separators", result(b"&" * 65000)),
     ("a note of eight times 4,096 letters", note(b"~".join([b"x" * 4096] * 8))),
     ("a note of eight times 1,365 escapes", note(b"~".join([b"\\E\\" * 1365] * 8))),
+    ("a note of five times 4,096 escapes", note(b"~".join([b"\\E\\" * 4096] * 5))),
 ]
 
 

@@ -34,7 +34,7 @@ extern "C" {
 /* Sizes in bytes: of a slot of the book; of the longest reply that there can be; of the longest message. */
 enum {
     ITHWYRAL_SLOT_SIZE = 1024,
-    ITHWYRAL_LONGEST_REPLY = 1200,
+    ITHWYRAL_LONGEST_REPLY = 3200,
     ITHWYRAL_LONGEST_MESSAGE = 65535
 };
 
@@ -52,7 +52,7 @@ enum ithwyral_refusal {
     ITHWYRAL_NO_SEGMENT = 10,        /* the message has fewer segments of that name */
     ITHWYRAL_BAD_STAMP = 11,         /* the stamp is not 14 digits that form a date and time, or there is no such day */
     ITHWYRAL_BAD_REPLY_NUMBER = 12,  /* the reply number is not 1 to 20 capitals or digits */
-    ITHWYRAL_NO_CONTROL_NUMBER = 13, /* MSH-10 of the message is empty, over 20 bytes or has a bad escape */
+    ITHWYRAL_NO_CONTROL_NUMBER = 13, /* MSH-10 of the message is empty, has a bad escape, or has over 20 bytes when it is read */
     ITHWYRAL_NO_ROOM = 14,           /* the lent buffer is too short */
     ITHWYRAL_NOT_ACCEPTED = 15,      /* the message has a fault */
     ITHWYRAL_NO_GROUP = 16,          /* the group is 0 or above the number of OBR segments */
@@ -67,7 +67,7 @@ enum ithwyral_refusal {
  *
  *      1  a segment out of place               2  the message may not end there
  *      3  a required field or leaf is missing  4  too many repetitions
- *      5  too long                             6  a bad escape
+ *      6  a bad escape                         5  too long, when it is read: an escape counts one byte
  *      7  not of its type                     13  no such day: a date in the form, whose month does not have its day
  *      8  not in its list, but for MSH-9.1 (9), MSH-9.2 (10), MSH-11.1 (11) and MSH-12.1 (12)
  */

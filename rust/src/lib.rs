@@ -34,7 +34,7 @@ use std::fmt;
 pub const SLOT_SIZE: usize = 1024;
 
 /// The bytes of the longest reply: a buffer of this size is never refused as [`Refusal::NoRoom`].
-pub const LONGEST_REPLY: usize = 1200;
+pub const LONGEST_REPLY: usize = 3200;
 
 /// The bytes of the longest message.
 pub const LONGEST_MESSAGE: usize = 65_535;
@@ -80,8 +80,8 @@ pub struct Fault {
     /// The condition code of its reason, 100 to 103 or 200 to 203.
     pub condition: u64,
     /// Why it is one, 1 to 13: 1 a segment out of place, 2 the message may not end there, 3 a required field or leaf is missing, 4 too many repetitions,
-    /// 5 too long, 6 a bad escape, 7 not of its type, 13 no such day (a date in the form, whose month does not have its day), 8 not in its list, but for
-    /// MSH-9.1 (9), MSH-9.2 (10), MSH-11.1 (11) and MSH-12.1 (12).
+    /// 6 a bad escape, 5 too long when it is read (an escape counts one byte), 7 not of its type, 13 no such day (a date in the form, whose month does
+    /// not have its day), 8 not in its list, but for MSH-9.1 (9), MSH-9.2 (10), MSH-11.1 (11) and MSH-12.1 (12).
     pub reason: u64,
 }
 

@@ -32,7 +32,7 @@ pub enum Refusal {
     BadStamp = 11,
     /// The reply number is not 1 to 20 capitals or digits.
     BadReplyNumber = 12,
-    /// MSH-10 of the message is empty, over 20 bytes or has a bad escape.
+    /// MSH-10 of the message is empty, has a bad escape, or has over 20 bytes when it is read.
     NoControlNumber = 13,
     /// The lent buffer is too short.
     NoRoom = 14,

@@ -112,6 +112,64 @@ fn a_day_must_exist() {
 }
 
 #[test]
+fn a_length_is_that_of_the_text_that_is_read() {
+    let practice = |name| line(&changed("LAB1", name));
+    assert_eq!(practice("R \\T\\ D \\T\\ K Care, West"), "accepted");
+    assert_eq!(
+        practice("R \\T\\ D \\T\\ K Care, North"),
+        "fault MSH 1 4 1 1 1 102 5"
+    );
+    assert_eq!(
+        practice("R \\X\\ D \\T\\ K Care, North"),
+        "fault MSH 1 4 1 1 1 102 6"
+    );
+}
+
+#[test]
+fn the_longest_reply_has_room() {
+    let ampersands = |number| "\\T\\".repeat(number);
+    let party = [ampersands(20), ampersands(199), ampersands(20)].join("^");
+    let parties = [&party[..]; 4].join("|");
+    let message = M
+        .replace("LABSYS|LAB1|DEPOT|D1", &parties)
+        .replace("|C7|P|", &format!("|{}|Q|", ampersands(20)));
+    let text = format!(
+        "MSH|^~\\&|{parties}|20240305101501||ACK^R01^ACK|{}|P|2.5.1\rMSA|AR|{}\r\
+        ERR||MSH^1^11^1^1^1|202^Unsupported processing id^HL70357|E\r",
+        "K".repeat(20),
+        ampersands(20)
+    );
+    assert_eq!(text.len(), 3074);
+    // written at once, and by way of what is set aside
+    for room in [LONGEST_REPLY, text.len()] {
+        let mut buffer = vec![b'.'; room];
+        let written = reply(message.as_bytes(), STAMP, &[b'K'; 20], &mut buffer).unwrap();
+        assert_eq!(String::from_utf8_lossy(written), text);
+        assert!(buffer[text.len()..].iter().all(|&b| b == b'.'));
+    }
+    let mut buffer = vec![b'.'; text.len() - 1];
+    assert_eq!(
+        reply(message.as_bytes(), STAMP, &[b'K'; 20], &mut buffer),
+        Err(Refusal::NoRoom)
+    );
+    assert!(buffer.iter().all(|&b| b == b'.'));
+}
+
+#[test]
+fn sizes_are_those_of_the_header_and_of_the_core() {
+    let header = include_str!("../../include/ithwyral.h");
+    let message = include_str!("../../crates/frame/src/limits.rt");
+    let reply = include_str!("../../crates/reply/src/limits.rt");
+    let slot = include_str!("../../crates/slot/src/lib.rt");
+    assert!(header.contains(&format!("ITHWYRAL_LONGEST_REPLY = {LONGEST_REPLY},")));
+    assert!(header.contains(&format!("ITHWYRAL_SLOT_SIZE = {SLOT_SIZE},")));
+    assert!(header.contains(&format!("ITHWYRAL_LONGEST_MESSAGE = {LONGEST_MESSAGE}\n")));
+    assert!(message.contains(&format!("LONGEST_MESSAGE: usize = {LONGEST_MESSAGE};")));
+    assert!(reply.contains(&format!("LONGEST_REPLY: usize = {LONGEST_REPLY};")));
+    assert!(slot.contains(&format!("SLOT_SIZE: usize = {SLOT_SIZE};")));
+}
+
+#[test]
 fn p9_has_no_end() {
     assert_eq!(line(&M.as_bytes()[..M.len() - 1]), "refused 5");
 }

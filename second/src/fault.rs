@@ -49,7 +49,8 @@ pub enum Reason {
     Missing = 3,
     /// Too many repetitions.
     TooManyRepetitions = 4,
-    /// A leaf over its limit.
+    /// A leaf over its limit once its escapes are resolved; tested after
+    /// [`BadEscape`](Reason::BadEscape).
     TooLong = 5,
     /// A leaf with a bad escape.
     BadEscape = 6,

@@ -228,13 +228,13 @@ fn judge_leaves<'p>(
     Ok(filled)
 }
 
-/// Judges a leaf that isn't Empty.
+/// Judges a leaf that isn't Empty. Its length is that of the text a person
+/// reads, its escapes resolved, so they are judged before it. Type and list
+/// look at the leaf as it is written.
 fn judge_leaf(rule: &LeafRule, leaf: &[u8]) -> Result<(), Reason> {
-    if leaf.len() > rule.limit {
+    let length = escape::resolved_length(leaf).map_err(|_| Reason::BadEscape)?;
+    if length > rule.limit {
         return Err(Reason::TooLong);
-    }
-    if !escape::is_sound(leaf) {
-        return Err(Reason::BadEscape);
     }
     if !rule.simple.admits(leaf) {
         return Err(Reason::NotOfType);

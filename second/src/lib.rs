@@ -1,5 +1,6 @@
-//! A second, independent reading of document 01, and of the rule since added
-//! to it that the day of a DTM and of a stamp must be in its month.
+//! A second, independent reading of document 01, and of the two rules since
+//! added to it: the day of a DTM and of a stamp must be in its month, and the
+//! length of a leaf is that of its text with the escapes resolved.
 //!
 //! A message is looked at in three steps: [`check`] tests its frame,
 //! [`judge()`] walks the listed segments for the first fault, and [`look_up`],
@@ -10,7 +11,7 @@
 //! - [`refusal`]: the numbers of the refusals
 //! - [`fault`]: the place of a fault, its reason and its condition code
 //! - [`separators`]: the five separators, and the header that names them
-//! - [`escape`]: the five escapes, judged and resolved
+//! - [`escape`]: the five escapes, resolved, and a text's resolved length
 //! - [`calendar`]: which days a month has
 //! - [`types`]: the simple types, their limits and forms, and the day of a DTM
 //! - [`profile`]: the listed segments, fields and leaves, the lists, the

@@ -96,7 +96,7 @@ pub struct LeafRule {
     pub place: (u32, u32),
     /// Its type.
     pub simple: Simple,
-    /// Its limit in written bytes.
+    /// Its limit in bytes, counted after resolving.
     pub limit: usize,
     /// Whether it is R within a filled repetition.
     pub starred: bool,

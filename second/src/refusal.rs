@@ -29,7 +29,7 @@ pub enum Refusal {
     BadStamp = 11,
     /// The reply number isn't 1..20 capitals or digits.
     BadReplyNumber = 12,
-    /// MSH-10 is Empty, over its limit, or has a bad escape.
+    /// MSH-10 is Empty, has a bad escape, or is over its limit once resolved.
     NoControlNumber = 13,
     /// The lent buffer is shorter than the output.
     NoRoom = 14,

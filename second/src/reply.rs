@@ -12,8 +12,9 @@ use crate::refusal::Refusal;
 use crate::separators::{COMPONENT, FIELD, HEADER, HEADER_HEAD};
 use crate::types;
 
-/// No reply is longer.
-pub const MOST_BYTES: usize = 1_200;
+/// No reply is longer. It copies leaves as they are written, so an escape
+/// takes three bytes though it counts one.
+pub const MOST_BYTES: usize = 3_200;
 /// The digits of a stamp.
 const STAMP_BYTES: usize = 14;
 /// The longest reply number.
@@ -111,8 +112,9 @@ fn copied_hd(mut walk: FieldWalk<'_>) -> [&[u8]; 3] {
     copied
 }
 
+/// Whether a leaf has no bad escape and, resolved, isn't over its limit.
 fn can_be_copied(leaf: &[u8], rule: &LeafRule) -> bool {
-    leaf.len() <= rule.limit && escape::is_sound(leaf)
+    escape::resolved_length(leaf).map_or(false, |length| length <= rule.limit)
 }
 
 fn write_header(out: &mut Vec<u8>, copied: &Copied<'_>, stamp: &[u8], number: &[u8]) {

@@ -38,7 +38,9 @@ pub fn file(message: &[u8], group: u64, slot: u64, book: &mut [u8]) -> Result<()
     Ok(())
 }
 
-/// What a slip keeps of a group, as written in the message.
+/// What a slip keeps of a group, as written in the message. The limits of
+/// these leaves count resolved bytes, as the slip's own limits do, so the texts
+/// of an accepted message fit though they may be longer as written.
 #[derive(Default)]
 struct Group<'m> {
     /// The texts of tags 1 to 5.
@@ -80,7 +82,7 @@ impl<'m> Group<'m> {
         for ((tag, _), text) in TEXTS.iter().zip(self.texts) {
             if !text.is_empty() {
                 let length = escape::resolve(text, &mut slip[end + HEAD_BYTES..])
-                    .expect("accepted leaves have sound escapes and fit in a slot");
+                    .expect("accepted leaves have sound escapes and, resolved, fit in a slot");
                 end = close(&mut slip, end, *tag, length);
             }
         }

@@ -28,7 +28,8 @@ pub enum Simple {
 }
 
 impl Simple {
-    /// The limit in written bytes, where a field has none of its own.
+    /// The limit in bytes, counted after resolving, where a field has none
+    /// of its own.
     pub const fn limit(self) -> usize {
         match self {
             Simple::Si => 4,

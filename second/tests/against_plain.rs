@@ -49,14 +49,10 @@ fn is_filled_first(segment: &str, field: &Field) -> bool {
         .map_or(false, |first| is_filled(first, leaves_of(segment, field)))
 }
 
-fn bad_escape(text: &str) -> bool {
-    match text.find('\\') {
-        None => false,
-        Some(at) => match text[at..].get(..3) {
-            Some("\\F\\" | "\\S\\" | "\\T\\" | "\\R\\" | "\\E\\") => bad_escape(&text[at + 3..]),
-            _ => true,
-        },
-    }
+/// The length of a text without a bad escape, once it is resolved: each
+/// escape has two marks that nobody reads.
+fn read_length(text: &str) -> usize {
+    text.chars().filter(|&character| character != '\\').count()
 }
 
 /// A year is a leap year if it can be divided by one of these or by all, not
@@ -86,8 +82,8 @@ fn leaf_reason(text: &str, rule: &LeafRule) -> Option<Reason> {
     match rule.list {
         _ if text.is_empty() && rule.starred => Some(Reason::Missing),
         _ if text.is_empty() => None,
-        _ if text.len() > rule.limit => Some(Reason::TooLong),
-        _ if bad_escape(text) => Some(Reason::BadEscape),
+        _ if has_bad_escape(text) => Some(Reason::BadEscape),
+        _ if read_length(text) > rule.limit => Some(Reason::TooLong),
         _ if !rule.simple.admits(text.as_bytes()) => Some(Reason::NotOfType),
         _ if rule.simple == Simple::Dtm && no_such_day(text) => Some(Reason::NoSuchDay),
         Some(list) if !list.holds(text.as_bytes()) => Some(list.reason()),
@@ -287,6 +283,75 @@ fn the_judge_agrees_with_a_plain_one_about_days() {
     for place in ["MSH 1 7", "PID 1 7", "OBR 1 7", "OBX 1 5", "OBX 1 14"] {
         let verdict = format!("fault {} 1 1 1 102 13", place);
         assert!(seen.get(&verdict) > Some(&100), "{:?}", seen);
+    }
+    assert!(seen.get("accepted") > Some(&2_000), "{:?}", seen);
+}
+
+/// A text about a limit in one count of its bytes or another.
+fn near_limit(numbers: &mut Numbers, limit: usize) -> String {
+    let good = ["\\F\\", "\\S\\", "\\T\\", "\\R\\", "\\E\\"];
+    let bad = ["\\", "\\X\\", "\\F", "\\\\", "\\F\\F\\"];
+    let wanted = [limit / 3, limit - 1, limit, limit, limit + 1][numbers.below(5)];
+    let share = [0, 1, 2, 10][numbers.below(4)];
+    let mut pieces: Vec<&str> = Vec::new();
+    for _ in 0..wanted {
+        pieces.push(match numbers.below(10) < share {
+            true => good[numbers.below(5)],
+            false => "1",
+        });
+    }
+    if numbers.below(4) == 0 {
+        pieces.insert(numbers.below(wanted + 1), bad[numbers.below(bad.len())]);
+    }
+    pieces.concat()
+}
+
+/// Leaves to be made long: M's segment, counted from 0, the field, the text
+/// before the leaf in the field, and the leaf's limit.
+const LIMITED: [(usize, usize, &str, usize); 12] = [
+    (0, 3, "A^", 199),
+    (0, 6, "", 20),
+    (0, 10, "", 20),
+    (1, 1, "", 4),
+    (1, 3, "A^^^&&", 20),
+    (1, 8, "", 20),
+    (1, 25, "", 16),
+    (2, 4, "", 199),
+    (3, 2, "", 3),
+    (3, 4, "", 20),
+    (3, 7, "", 60),
+    (3, 14, "", 24),
+];
+
+#[test]
+fn the_judge_agrees_with_a_plain_one_about_lengths() {
+    let mut numbers = Numbers(17);
+    let mut seen = std::collections::BTreeMap::new();
+    for _ in 0..20_000 {
+        let mut segments = [MSH, PID, OBR, OBX].map(String::from);
+        for _ in 0..=numbers.below(2) {
+            let (at, field, before, limit) = LIMITED[numbers.below(LIMITED.len())];
+            let text = format!("{}{}", before, near_limit(&mut numbers, limit));
+            segments[at] = set(&segments[at], field, &text);
+        }
+        let [msh, pid, obr, obx] = &segments;
+        let message = message(&[msh, pid, obr, obx]);
+        let verdict = line(&message);
+        assert_eq!(verdict, plain_line(&message));
+        *seen.entry(verdict).or_insert(0) += 1;
+    }
+    for reason in [5, 6] {
+        for place in [
+            "MSH 1 3 1 2 1",
+            "MSH 1 10 1 1 1",
+            "PID 1 1 1 1 1",
+            "PID 1 3 1 4 3",
+            "OBX 1 2 1 1 1",
+            "OBX 1 7 1 1 1",
+        ] {
+            let verdict = format!("fault {} 102 {}", place, reason);
+            assert!(seen.get(&verdict) > Some(&50), "{:?}", seen);
+        }
     }
     assert!(seen.get("accepted") > Some(&2_000), "{:?}", seen);
 }

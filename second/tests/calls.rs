@@ -97,11 +97,11 @@ fn judge_and_look() {
 #[test]
 fn resolve_and_reply() {
     let m = spelled(&m());
-    let room = "=.*1199;";
+    let room = "=.*3199;";
     assert_eq!(answer(r"resolve =\ =ab"), "refused 20 =ab");
     assert_eq!(answer(r"resolve =\F\x ="), "refused 14 =");
     let replied = answer(&format!("reply {} =20240305101501 =K1 {}", m, room));
-    let start = r"written 79 =MSH|^~\&|DEPOT|D1|LABSYS|LAB1|20240305101501||ACK^R01^ACK|K1|P|2.5.1%0DMSA|AA|C7%0D.*1120;";
+    let start = r"written 79 =MSH|^~\&|DEPOT|D1|LABSYS|LAB1|20240305101501||ACK^R01^ACK|K1|P|2.5.1%0DMSA|AA|C7%0D.*3120;";
     assert_eq!(replied, start);
     assert_eq!(
         answer(&format!("reply {} =2024 =K1 =ab", m)),
@@ -165,8 +165,15 @@ fn no_calls() {
     ] {
         assert_eq!(answer(bad), "no call", "{:?}", bad);
     }
-    // a number that does not fit is asked as the largest
-    for large in ["18446744073709551615", "18446744073709551616", "100000000000000000000000"] {
+}
+
+#[test]
+fn a_number_that_does_not_fit_is_asked_as_the_largest() {
+    for large in [
+        "18446744073709551615",
+        "18446744073709551616",
+        "100000000000000000000000",
+    ] {
         assert_eq!(answer(&format!("read = {} 1", large)), "refused 17");
     }
 }

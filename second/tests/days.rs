@@ -3,6 +3,7 @@
 mod common;
 use common::*;
 use second::calendar::has_day;
+use second::reply::MOST_BYTES;
 use second::types::{is_date_time, names_no_such_day};
 use second::Refusal;
 
@@ -204,14 +205,16 @@ fn only_date_times_are_tested() {
 }
 
 #[test]
-fn length_escape_and_form_come_before_the_day() {
+fn escape_length_and_form_come_before_the_day() {
     for (text, expected) in [
         ("20240230235959.12345+0100", 5),
         ("2024023023595959595959595", 5),
-        (r"20240230\zzzzzzzzzzzzzzzz", 5),
+        (r"20240230\zzzzzzzzzzzzzzzz", 6),
+        (r"20240230235959.1234+01\F\\F\\F\", 5),
         (r"20240230\", 6),
         (r"20240230\X\", 6),
         (r"20240230\F\", 7),
+        (r"20240230235959.1234+01\F\\F\", 7),
         ("20240230 ", 7),
         (" 20240230", 7),
         ("20240230x", 7),
@@ -293,7 +296,7 @@ fn the_reply_to_such_a_day() {
 
 /// What becomes of a reply to M with that stamp.
 fn stamped(message: &[u8], stamp: &str, number: &str) -> Result<usize, u8> {
-    let mut buffer = [b'.'; 1_200];
+    let mut buffer = [b'.'; MOST_BYTES];
     let written = second::reply(message, stamp.as_bytes(), number.as_bytes(), &mut buffer);
     let kept = written.unwrap_or(0);
     assert!(buffer[kept..].iter().all(|&byte| byte == b'.'));

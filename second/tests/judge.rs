@@ -217,7 +217,7 @@ fn reason_4_before_all_else_in_a_field() {
 }
 
 #[test]
-fn reasons_5_to_7_in_order() {
+fn reasons_6_5_and_7_in_order() {
     faulty("PID", 1, "12345", "PID 1 1 1 1 1 102 5");
     good("PID", 1, "1234");
     good("PID", 1, "1234&5^6");
@@ -244,16 +244,22 @@ fn reasons_5_to_7_in_order() {
     );
     faulty("OBX", 7, &"7".repeat(61), "OBX 1 7 1 1 1 102 5");
     good("OBX", 7, &"7".repeat(60));
-    // Written bytes count, not resolved ones.
-    faulty("MSH", 10, r"\F\\F\\F\\F\\F\\F\\F\", "MSH 1 10 1 1 1 102 5");
-    good("MSH", 10, r"\F\\F\\F\\F\\F\\F\12");
-    // Unlisted parts are never judged.
-    good("PID", 2, r"\");
-    good("PID", 3, r"A^\^\^H^MR^\");
-    good("PID", 3, r"A&\^x");
     good("OBX", 14, "20240101");
     faulty("OBX", 14, "20241301", "OBX 1 14 1 1 1 102 7");
     faulty("PID", 25, "x", "PID 1 25 1 1 1 102 7");
+    // Resolved bytes count, not written ones.
+    good("MSH", 10, &r"\F\".repeat(20));
+    faulty("MSH", 10, &r"\F\".repeat(21), "MSH 1 10 1 1 1 102 5");
+    // So a bad escape comes before a text that is too long.
+    faulty("PID", 1, r"1234\x", "PID 1 1 1 1 1 102 6");
+    faulty("PID", 1, r"\12345", "PID 1 1 1 1 1 102 6");
+}
+
+#[test]
+fn unlisted_parts_are_never_judged() {
+    good("PID", 2, r"\");
+    good("PID", 3, r"A^\^\^H^MR^\");
+    good("PID", 3, r"A&\^x");
 }
 
 #[test]

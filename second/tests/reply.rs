@@ -2,7 +2,11 @@
 
 mod common;
 use common::*;
-use second::Refusal;
+use second::profile::{value_leaves, Field, List, Listed};
+use second::reply::MOST_BYTES;
+use second::{Reason, Refusal};
+
+const VALUE_TYPES: [&[u8]; 8] = [b"CE", b"DTM", b"FT", b"NM", b"SN", b"ST", b"TM", b"TX"];
 
 fn replied(message: &[u8], stamp: &str, number: &str, room: usize) -> Result<usize, u8> {
     let mut buffer = vec![b'.'; room];
@@ -149,15 +153,83 @@ fn rejections() {
 
 #[test]
 fn the_longest_reply() {
-    let hd = format!("{}^{}^{}", "a".repeat(20), "b".repeat(199), "c".repeat(20));
-    let mut header = MSH.to_string();
-    for field in 3..=6 {
-        header = set(&header, field, &hd);
-    }
-    header = set(&set(&header, 10, &"C".repeat(20)), 11, "X");
-    let mut segments = vec![header.as_str(), PID, OBR];
-    segments.resize(512, OBX);
+    let message = longest_reply_message();
     let number = "N".repeat(20);
-    let length = replied(&message(&segments), STAMP, &number, 1_200).unwrap();
-    assert!(length > 1_000 && length <= 1_200);
+    let length = replied(&message, STAMP, &number, MOST_BYTES).unwrap();
+    assert_eq!(length, 3_074);
+    assert_eq!(replied(&message, STAMP, &number, length), Ok(length));
+    assert_eq!(replied(&message, STAMP, &number, length - 1), Err(14));
+    assert_eq!(replied(&message, STAMP, &number, 1_200), Err(14));
+}
+
+/// The bytes of an ERR for a fault in the last segment of this name, of the
+/// 512 that a message may have.
+fn error_bytes(name: &str, numbers: &[u32], condition: u32, text: &str) -> usize {
+    let place: String = numbers
+        .iter()
+        .map(|number| format!("^{}", number))
+        .collect();
+    format!("ERR||{}{}|{}^{}^HL70357|E\r", name, place, condition, text).len()
+}
+
+/// The bytes of each ERR for a fault in a field or its leaves, but for the
+/// rejections.
+fn field_error_bytes(name: &str, occurrence: u32, field: &Field) -> Vec<usize> {
+    let leaves = match field.leaves {
+        Some(leaves) => leaves.to_vec(),
+        None => VALUE_TYPES.map(value_leaves).concat(),
+    };
+    let missing = "Required field missing";
+    let place = [occurrence, field.number, field.most + 1];
+    let mut lengths = vec![
+        error_bytes(name, &place, 101, missing),
+        error_bytes(name, &place, 102, "Data type error"),
+    ];
+    for leaf in &leaves {
+        let (component, subcomponent) = leaf.place;
+        let place = [
+            occurrence,
+            field.number,
+            field.most,
+            component,
+            subcomponent,
+        ];
+        lengths.push(error_bytes(name, &place, 102, "Data type error"));
+        // A leaf alone in its field is missing with the field.
+        if leaf.starred && leaves.len() > 1 {
+            lengths.push(error_bytes(name, &place, 101, missing));
+        }
+        if leaf.list.map(List::reason) == Some(Reason::NotInList) {
+            lengths.push(error_bytes(name, &place, 103, "Table value not found"));
+        }
+    }
+    lengths
+}
+
+#[test]
+fn no_fault_makes_a_longer_reply() {
+    // The ERR of the longest reply has 60 bytes.
+    let longest = error_bytes("MSH", &[1, 11, 1, 1, 1], 202, "Unsupported processing id");
+    assert_eq!(longest, 60);
+    let mut lengths = vec![
+        error_bytes("MSH", &[1, 9, 1, 1, 1], 200, "Unsupported message type"),
+        error_bytes("MSH", &[1, 9, 1, 2, 1], 201, "Unsupported event code"),
+        error_bytes("MSH", &[1, 12, 1, 1, 1], 203, "Unsupported version id"),
+    ];
+    for (name, most) in [
+        ("MSH", 1),
+        ("PID", 511),
+        ("NK1", 510),
+        ("ORC", 510),
+        ("OBR", 510),
+        ("OBX", 509),
+        ("NTE", 509),
+    ] {
+        lengths.push(error_bytes(name, &[most], 100, "Segment sequence error"));
+        let listed = Listed::named(<[u8; 3]>::try_from(name.as_bytes()).unwrap()).unwrap();
+        for field in listed.fields() {
+            lengths.extend(field_error_bytes(name, most, field));
+        }
+    }
+    assert!(lengths.iter().all(|&length| length < longest));
 }

@@ -185,7 +185,7 @@ WORDS = {
     ("fieldChecks", 4): ["too many repetitions"],
     ("fieldChecks", 3): ["required, and its first repetition isn't filled", "(OBX-2 is required when OBX-5's first is filled)"],
     ("leafChecks", 3): ["an Empty * leaf; other Empty leaves pass"],
-    ("leafChecks", 5): ["too long"],
+    ("leafChecks", 5): ["too long, an escape counted as one byte"],
     ("leafChecks", 6): ["bad escape"],
     ("leafChecks", 7): ["not of its type"],
     ("leafChecks", 13): ["a date whose month has no such day"],

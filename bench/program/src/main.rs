@@ -19,12 +19,16 @@ use ours::Ours;
 use theirs::Theirs;
 
 const USAGE: &str = "\
-usage: bench ours|second frame|judge|look|reply|file TIMES [timed] < MESSAGE
+usage: bench ours|second frame|judge|look|reply|short|file TIMES [timed] < MESSAGE
        bench sum bytes TIMES [timed] < MESSAGE
 ";
 
 pub const STAMP: &[u8] = b"20240305101501";
 pub const NUMBER: &[u8] = b"K1";
+
+/// A buffer with room for every reply, and one that has room for most.
+const BUFFER: usize = 3200;
+const SHORT_BUFFER: usize = 1200;
 
 /// Where the message begins: 0, but loaded anew before each call, so that no two calls are known to be equal.
 static START: AtomicUsize = AtomicUsize::new(0);
@@ -73,6 +77,7 @@ fn entry_of<C: Core>(what: &str) -> Option<Entry> {
         "judge" => Some(|message, _| C::judge(message)),
         "look" => Some(|message, lent| C::look_up(message, lent.last)),
         "reply" => Some(|message, lent| C::reply(message, &mut lent.buffer)),
+        "short" => Some(|message, lent| C::reply(message, &mut lent.buffer[..SHORT_BUFFER])),
         "file" => Some(|message, lent| C::file(message, &mut lent.book)),
         _ => None,
     }
@@ -82,7 +87,7 @@ fn run(entry: Entry, times: NonZeroU64, is_timed: bool, message: &[u8]) {
     let observations = message.split(|&byte| byte == b'\r').filter(|segment| segment.starts_with(b"OBX"));
     let mut lent = Lent {
         last: observations.count() as u64,
-        buffer: vec![0; 1200],
+        buffer: vec![0; BUFFER],
         book: vec![0; 1024],
     };
     let mut answers: u64 = 0;

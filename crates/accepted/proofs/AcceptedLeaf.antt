@@ -11,8 +11,7 @@ use borrow.Author.Tests.{le-ltb, ltb-true, ltb-false}
 use Rattle.text.specs.Bytes.{Text, pick, empty, some, isOne}
 use Rattle.text.specs.declared.marks.Marks.{Marks}
 use Rattle.text.specs.Marks.{marksOf}
-use Rattle.escape.specs.Escape.{badEscape}
-use Rattle.text.specs.Limits.{tooLong}
+use Rattle.escape.specs.Escape.{badEscape, resolved, tooLong}
 use Rattle.text.proofs.Tests.{not-true, same-true}
 use Rattle.text.proofs.Lists.{All, all-map, all-both, all-keep, all-kept, every-all, or-none}
 use Rattle.frame.specs.Segments.{segments, name, named, ofName, occurrence, fewer}
@@ -24,7 +23,7 @@ use Rattle.parts.proofs.Members.{append-all, keep-step, keep-all, some-map, map
 use Rattle.checks.proofs.Leaf.{leaf-nought, leaf-beyond}
 use Rattle.checks.proofs.Filled.{late-numbers}
 use Rattle.profile.proofs.Days.{empty-day}
-use Rattle.escape.proofs.Escapes.{bad-none}
+use Rattle.escape.proofs.Escapes.{bad-none, resolved-length}
 use Rattle.accepted.proofs.Accepted.{accepted-none}
 
 -- 1. A leaf's rule
@@ -33,8 +32,8 @@ InList any t = Unit
 InList (only codes n) t = not (empty t) && not (isOne t codes) ≡ false
 
 pub record Kept (q : Marks) (l : Leaf) (t : Text) : Type 0 where
-  pub short : tooLong (l .limit) t ≡ false
   pub good : badEscape q t ≡ false
+  pub short : tooLong q (l .limit) t ≡ false
   pub typed : not (empty t) && not (ofType (l .type) t) ≡ false
   pub dated : noSuchDay (l .type) t ≡ false
   pub coded : InList (l .list) t
@@ -45,7 +44,7 @@ empty-in any = tt
 empty-in (only codes n) = refl
 
 empty-kept : (q : Marks) (l : Leaf) (t : Text) → empty t ≡ true → Kept q l t
-empty-kept q l [] e = record { short = le-ltb (l .limit) 0 (omega arith); good = bad-none q; typed = refl; dated = empty-day (l .type) [] refl; coded = empty-in (l .list) }
+empty-kept q l [] e = record { good = bad-none q; short = le-ltb (l .limit) (length (resolved q [])) (omega (arith, resolved-length q [])); typed = refl; dated = empty-day (l .type) [] refl; coded = empty-in (l .list) }
 empty-kept q l (b ∷ t) e = not-true e
 
 -- in a filled repetition a starred one is not Empty
@@ -61,7 +60,7 @@ list-judged p (only codes n) t a = a .0
 
 leaf-judged : (q : Marks) (n : Text) (o f k : ℕ) (e : Entry)
     → All Fine (leafChecks q (place n o f k (e .leaf .component) (e .leaf .subcomponent)) (e .leaf) (e .text)) → Judged q (e .leaf) (e .text)
-leaf-judged q n o f k e a = (record { short = a .1 .0; good = a .1 .1 .0; typed = a .1 .1 .1 .0; dated = a .1 .1 .1 .1 .0; coded = list-judged (place n o f k (e .leaf .component) (e .leaf .subcomponent)) (e .leaf .list) (e .text) (a .1 .1 .1 .1 .1) }, a .0)
+leaf-judged q n o f k e a = (record { good = a .1 .0; short = a .1 .1 .0; typed = a .1 .1 .1 .0; dated = a .1 .1 .1 .1 .0; coded = list-judged (place n o f k (e .leaf .component) (e .leaf .subcomponent)) (e .leaf .list) (e .text) (a .1 .1 .1 .1 .1) }, a .0)
 
 abbrev EntriesJudged : Marks → List Entry → Type 0
 EntriesJudged q es = All (λ (e : Entry). Judged q (e .leaf) (e .text)) es

@@ -11,7 +11,8 @@ use borrow.Author.Tests.{ltb-false, eqb-true, eq-eqb}
 use Rattle.text.specs.Bytes.{Text, empty, some, every, keep, same}
 use Rattle.text.specs.declared.marks.Marks.{Marks}
 use Rattle.text.specs.Marks.{marksOf}
-use Rattle.escape.specs.Escape.{badEscape}
+use Rattle.escape.specs.Escape.{resolved}
+use Rattle.escape.specs.Length.{Fits}
 use Rattle.text.proofs.Tests.{not-true, both}
 use Rattle.text.proofs.Lists.{All, and-both, all-map, all-both, all-keep, all-kept, all-flatMap, every-all, some-mono}
 use Rattle.frame.specs.Segments.{occurrence, fewer}
@@ -138,8 +139,8 @@ some-length : (t : Text) → empty t ≡ false → 1 ≤ length t
 some-length [] e = not-true (sym e)
 some-length (b ∷ t) e = omega arith
 
-kept-fits : (q : Marks) (l : Leaf) (t : Text) (k : ℕ) → eqb (l .limit) k ≡ true → Kept q l t → (badEscape q t ≡ false) × (length t ≤ k)
-kept-fits q l t k e w = (w .good, omega (arith, eqb-true (l .limit) k e, ltb-false (l .limit) (length t) (w .short)))
+kept-fits : (q : Marks) (l : Leaf) (t : Text) (k : ℕ) → eqb (l .limit) k ≡ true → Kept q l t → Fits q k t
+kept-fits q l t k e w = record { good = w .good; short = omega (arith, eqb-true (l .limit) k e, ltb-false (l .limit) (length (resolved q t)) (w .short)) }
 
 module _ (T : Table) (m : Text) (ok : verdict T m ≡ accepted) (n : Text) (o : ℕ) (low : 1 ≤ o) (there : fewer m n o ≡ false) (f c b : ℕ) where
   abbrev q : Marks
@@ -161,7 +162,7 @@ module _ (T : Table) (m : Text) (ok : verdict T m ≡ accepted) (n : Text) (o : 
 
   -- it has no bad escape and is no longer than its limit
   pub accepted-fits : (k : ℕ) → someLeaf T n f (isLimited c b k) ≡ true
-      → (r : ℕ) → let t = textAt m (place n o f r c b) in (badEscape q t ≡ false) × (length t ≤ k)
+      → (r : ℕ) → Fits q k (textAt m (place n o f r c b))
   accepted-fits k e r =
       let K : ℕ → Listed → Type 0 = λ g x. All (λ (l : Leaf). Kept q l (textOf g r l)) (leavesBy x) in
       let l = leaf-found T n K
@@ -171,7 +172,7 @@ module _ (T : Table) (m : Text) (ok : verdict T m ≡ accepted) (n : Text) (o : 
       (accepted-fields T m ok n (leaf-listed T n f (isLimited c b k) e) o low there)))
       f (isLimited c b k) e in
       let h = both (isAt c b (l .0)) (eqb (l .0 .limit) k) (l .1 .1) in
-      subst (λ (t : Text). (badEscape q t ≡ false) × (length t ≤ k)) (same-place r f (l .0) (eq-eqb f f refl) (h .0) ∙ sym (text-is m (place n o f r c b)))
+      subst (Fits q k) (same-place r f (l .0) (eq-eqb f f refl) (h .0) ∙ sym (text-is m (place n o f r c b)))
       (kept-fits q (l .0) (textOf f r (l .0)) k (h .1) (l .1 .0 .0))
 
   -- in a required field a starred leaf is there

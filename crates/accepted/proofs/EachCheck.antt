@@ -123,7 +123,7 @@ module _ (F : ℕ → Bool) (L : Leaf → Bool) where
       pub surplus : (n : Text) (o f r : ℕ) → N n → F f ≡ true → C (place n (suc o) f (suc r) 0 0) 4
       pub leaf :
           (n : Text) (o f r : ℕ) (l : Leaf) → N n → F f ≡ true → L l ≡ true
-          → All (C (place n (suc o) f (suc r) (l .component) (l .subcomponent))) (3 ∷ 5 ∷ 6 ∷ 7 ∷ 13 ∷ [])
+          → All (C (place n (suc o) f (suc r) (l .component) (l .subcomponent))) (3 ∷ 6 ∷ 5 ∷ 7 ∷ 13 ∷ [])
       pub list :
           (n : Text) (o f r : ℕ) (l : Leaf) → N n → F f ≡ true → L l ≡ true → (codes : List Text) (why : ℕ) → l .list ≡ only codes why
           → C (place n (suc o) f (suc r) (l .component) (l .subcomponent)) why

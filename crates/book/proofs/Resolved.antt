@@ -1,22 +1,14 @@
--- Laws of a text resolved: it holds some byte where the text does, and is printable where the text is.
+-- A text resolved is printable where the text is.
 use mathlib.Core.Path.{_≡_, refl}
-use Prim.Native.Nat.{ℕ, zero, suc, _≤_}
-use native.Mathlib.Omega.{arith}
+use Prim.Native.Nat.{ℕ, zero, suc}
 use mathlib.Core.Bool.{true}
 use mathlib.Core.List.{List, [], _∷_, map}
-use lib.ListN.{length}
 use Rattle.text.specs.Bytes.{Text, pick, printable, every}
 use Rattle.text.specs.Marks.{usual}
 use Rattle.escape.specs.Escape.{Escape, five, beginsWith, isEscape, firstByte, standsFor, stops, resolved}
 use Rattle.text.specs.declared.marks.Marks.{Marks}
 use Rattle.text.proofs.Tests.{both, picks}
 use Rattle.text.proofs.Lists.{All, and-both}
-
--- the reader stops at the first byte, and so some byte is read
-pub resolved-some : (q : Marks) (t : Text) → 1 ≤ length t → 1 ≤ length (resolved q t)
-unfolding resolved stops
-resolved-some q [] l = absurd (omega arith)
-resolved-some q (b ∷ t) l = omega arith
 
 -- the five separators are printable
 pub record PlainMarks (q : Marks) : Type 0 where

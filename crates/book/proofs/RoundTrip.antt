@@ -14,7 +14,7 @@ use Rattle.text.specs.Marks.{marksOf}
 use Rattle.text.specs.declared.marks.Marks.{Marks}
 use Rattle.text.specs.declared.refusal.Refusal.the-variants.{NoSlot, BadSlip, NoTag}
 use Rattle.text.proofs.Tests.{empty-some}
-use Rattle.escape.proofs.Escapes.{resolved-none, resolved-length}
+use Rattle.escape.proofs.Escapes.{resolved-none, written-length}
 use Rattle.profile.specs.Profile.{profile01}
 use Rattle.reader.specs.Place.{place, textAt}
 use Rattle.reader.specs.Observations.{observationsOf}
@@ -27,7 +27,7 @@ use Rattle.slip.proofs.SlotRoom.{slot-room}
 use Rattle.slip.proofs.Passed.{filed-room, filed-text, filed-fitting}
 use Rattle.book.specs.Read.{expected, isSlip, Part, valueFrom, isNone, orNothing, slot, readSlip}
 use Rattle.book.specs.RoundTrip.{readBytes, valueOfTag, afterwards, RoundTrip}
-use Rattle.book.proofs.Resolved.{PlainMarks, usual-plain, resolved-some, resolved-plain}
+use Rattle.book.proofs.Resolved.{PlainMarks, usual-plain, resolved-plain}
 use Rattle.book.proofs.Fields.{Brief, Held, Reads, told, held-full}
 use Rattle.book.proofs.Whole.{slip-length, slip-reads}
 use Rattle.book.proofs.Slots.{filed, filed-length, filed-from, filed-slot, filed-other, filed-reads, filed-bytes}
@@ -39,10 +39,10 @@ marks-plain m = usual-plain
 
 module _ (q : Marks) (p : PlainMarks q) (most : ℕ) (t : Text) where
   taken-brief : Taken q most t → Brief most (resolved q t)
-  taken-brief h = record { short = omega (arith, resolved-length q t, h .short); plain = resolved-plain q p t (h .plain) }
+  taken-brief h = record { short = h .fits .short; plain = resolved-plain q p t (h .plain) }
 
   filled-held : Filled q most t → Held most (resolved q t)
-  filled-held h = record { brief = taken-brief (h .taken); some = resolved-some q t (h .some) }
+  filled-held h = record { brief = taken-brief (h .taken); some = omega (arith, written-length q t, h .some) }
 
 module _ (m : Text) (g : ℕ) (f : Fitting m g) where
   control-held : Held longestControl (resolvedAt m (bytes "MSH") 1 10)
@@ -136,7 +136,7 @@ module _ (m : Text) (g k : ℕ) (book slip : Text) (e : file profile01 m g k boo
   pub placer-back : 1 ≤ length (textAt m (place (bytes "OBR") g 2 1 1 1)) → readBack m g k book 3 ≡ given (resolvedAt m (bytes "OBR") g 2)
   unfolding valueOfTag
   placer-back l =
-      let some = resolved-some (marksOf m) (textAt m (place (bytes "OBR") g 2 1 1 1)) l in
+      let some = written-length (marksOf m) (textAt m (place (bytes "OBR") g 2 1 1 1)) in
       own-back 3 ∙ rw (empty-some (resolvedAt m (bytes "OBR") g 2) (λ e. omega arith))
 
   pub filler-back : readBack m g k book 4 ≡ given (resolvedAt m (bytes "OBR") g 3)

@@ -6,9 +6,8 @@ use Prim.Native.Nat.{ℕ, _≤_}
 use native.Mathlib.Omega.{arith}
 use borrow.Author.Tests.{not-true, not-false}
 use Rattle.text.specs.Bytes.{Text, pick, empty, isOne}
-use Rattle.text.specs.Limits.{tooLong}
 use Rattle.text.proofs.Tests.{not-true as no, within-high, picks}
-use Rattle.escape.specs.Escape.{badEscape}
+use Rattle.escape.specs.Escape.{badEscape, tooLong}
 use Rattle.types.specs.Types.{digits, isDTM, hasDay, dayExists}
 use Rattle.profile.specs.Table.{Simple, DTM, Codes, any, only, ofType, noSuchDay}
 use Rattle.profile.specs.Order.{reasonFits}
@@ -34,12 +33,12 @@ of-list p (only codes n) t fits e =
     apart (pick b (fault p n) accepted) p (picks (λ v. reasonOf v ≤ 12) b {x = fault p n} {y = accepted} (within-high 1 12 n fits) (omega arith)) e
 
 -- so the check of the day does, and that of the form holds
-leaf-step : (p : Place) (cs : List Check) (star long escape form day : Bool) → (firstBroken cs ≡ fault p 13 → ⊥)
-    → firstBroken (check p 3 star ∷ check p 5 long ∷ check p 6 escape ∷ check p 7 form ∷ check p 13 day ∷ cs) ≡ fault p 13 → (form ≡ false) × (day ≡ true)
+leaf-step : (p : Place) (cs : List Check) (star escape long form day : Bool) → (firstBroken cs ≡ fault p 13 → ⊥)
+    → firstBroken (check p 3 star ∷ check p 6 escape ∷ check p 5 long ∷ check p 7 form ∷ check p 13 day ∷ cs) ≡ fault p 13 → (form ≡ false) × (day ≡ true)
 unfolding firstBroken
-leaf-step p cs true long escape form day h e = absurd (apart (fault p 3) p (omega arith) e)
-leaf-step p cs false true escape form day h e = absurd (apart (fault p 5) p (omega arith) e)
-leaf-step p cs false false true form day h e = absurd (apart (fault p 6) p (omega arith) e)
+leaf-step p cs true escape long form day h e = absurd (apart (fault p 3) p (omega arith) e)
+leaf-step p cs false true long form day h e = absurd (apart (fault p 6) p (omega arith) e)
+leaf-step p cs false false true form day h e = absurd (apart (fault p 5) p (omega arith) e)
 leaf-step p cs false false false true day h e = absurd (apart (fault p 7) p (omega arith) e)
 leaf-step p cs false false false false true h e = (refl, refl)
 leaf-step p cs false false false false false h e = absurd (h e)
@@ -57,7 +56,7 @@ filled (b ∷ t) e = refl
 pub told-for-its-day : ToldForItsDay
 told-for-its-day q p l t fits e =
     let cs = listChecks p (l .list) t in
-    let w = leaf-step p cs (empty t && l .star) (tooLong (l .limit) t) (badEscape q t) (not (empty t) && not (ofType (l .type) t)) (noSuchDay (l .type) t) (of-list p (l .list) t fits) e in
+    let w = leaf-step p cs (empty t && l .star) (badEscape q t) (tooLong q (l .limit) t) (not (empty t) && not (ofType (l .type) t)) (noSuchDay (l .type) t) (of-list p (l .list) t fits) e in
     let date : l .type ≡ DTM = only-dates (l .type) t (w .1) in
     let day = has-day (l .type) t (w .1) (hasDay t) refl in
     let form : not (isDTM t) ≡ false = rw (date, filled t day) at (w .0) in

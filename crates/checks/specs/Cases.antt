@@ -3,14 +3,14 @@
 use Prim.Native.Nat.{ℕ}
 use Prim.Native.String.{String}
 use mathlib.Core.Path.{_≡_}
-use mathlib.Core.Bool.{true}
+use mathlib.Core.Bool.{true, false}
 use mathlib.Core.List.{List, [], _∷_, map}
 use Rattle.text.specs.Bytes.{Text, bytes, cr}
 use Rattle.text.specs.Answer.{refused}
 use Rattle.text.specs.declared.refusal.Refusal.the-variants.{BadPlace, NoSegment}
 use Rattle.text.specs.Marks.{usual}
 use Rattle.parts.specs.Split.{closed}
-use Rattle.profile.specs.Table.{DTM, Leaf, only}
+use Rattle.profile.specs.Table.{DTM, ST, Leaf, any, only}
 use Rattle.profile.specs.Profile.{profile01}
 use Rattle.checks.specs.Place.{place}
 use Rattle.checks.specs.LookUp.{lookUp}
@@ -74,9 +74,15 @@ cases =
     ∷ (withOBX "OBX|1||T||x||||||F" is at "OBX" 1 2 1 0 0 3)
     -- a later repetition is judged, and the first broken one is told
     ∷ (withPID "PID|||A~^^^x~^^^^y||B||2024" is at "PID" 1 3 2 1 1 3)
-    -- too long is told before a bad escape, and a bad escape before the type
-    ∷ (withOBX "OBX|1||T|ABCDEFGHIJKLMNOPQRST\\|||||||F" is at "OBX" 1 4 1 1 1 5)
+    -- a bad escape is told before too long, and too long before the type
+    ∷ (withOBX "OBX|1||T|ABCDEFGHIJKLMNOPQRST\\|||||||F" is at "OBX" 1 4 1 1 1 6)
     ∷ (withOBX "OBX|1\\||T||||||||F" is at "OBX" 1 1 1 1 1 6)
+    ∷ (withOBX "OBX|1234x||T||||||||F" is at "OBX" 1 1 1 1 1 5)
+    -- a limit is for the text that a person reads: here 20 bytes, and 21
+    ∷ (withOBX "OBX|1||T|R \\T\\ D \\T\\ K Care, West|||||||F" is accepted)
+    ∷ (withOBX "OBX|1||T|R \\T\\ D \\T\\ K Care, North|||||||F" is at "OBX" 1 4 1 1 1 5)
+    -- a type is for what is written: six bytes that read as two are within an SI's limit, and are no digits
+    ∷ (withOBX "OBX|\\E\\\\E\\||T||||||||F" is at "OBX" 1 1 1 1 1 7)
     -- a date in the form whose month has no such day, and one that is not in the form
     ∷ (withPID "PID|||A||B||20240231" is at "PID" 1 7 1 1 1 13)
     ∷ (withPID "PID|||A||B||20240232" is at "PID" 1 7 1 1 1 7)
@@ -98,7 +104,24 @@ PlaceBeforeSegment =
     (lookUp (closed cr (bytes msh ∷ [])) (place (bytes "ZZX") 513 1 1 1 1) ≡ refused BadPlace)
     × (lookUp (closed cr (bytes msh ∷ [])) (place (bytes "ZZX") 512 1 1 1 1) ≡ refused NoSegment)
 
--- A LEAF WITH A DATE AND A LIST, as 01's table has none: too long, bad escape, form, day, list, in this order
+-- A LEAF OF ITS OWN, as 01's table has none
+abbrev pub toldLeaf : Leaf → String → Verdict
+toldLeaf l s = firstBroken (leafChecks usual (place (bytes "ZZX") 1 1 1 1 1) l (bytes s))
+
+abbrev pub here : ℕ → Verdict
+here reason = at "ZZX" 1 1 1 1 1 reason
+
+-- with a limit that a practice's name just meets when it is read: one byte more is too long, but a bad escape in it is told first
+abbrev pub practice : Leaf
+practice = record { component = 1; subcomponent = 1; type = ST; star = false; limit = 14; list = any }
+
+abbrev pub LimitAsRead : Type 0
+LimitAsRead =
+    map (toldLeaf practice)
+    ("R \\T\\ D \\T\\ K Care" ∷ "R \\T\\ D \\T\\ K Care." ∷ "R \\T\\ D \\X\\ K Care." ∷ "R \\T\\ D \\T\\ K Care.\\" ∷ "R and D and K C." ∷ [])
+    ≡ accepted ∷ here 5 ∷ here 6 ∷ here 6 ∷ here 5 ∷ []
+
+-- with a date and a list: bad escape, too long, form, day, list, in this order
 abbrev pub dated : Leaf
 dated =
     record {
@@ -110,13 +133,8 @@ dated =
       list = only (bytes "20240229" ∷ bytes "20240231" ∷ []) 8;
     }
 
-abbrev pub toldLeaf : String → Verdict
-toldLeaf s = firstBroken (leafChecks usual (place (bytes "ZZX") 1 1 1 1 1) dated (bytes s))
-
-abbrev pub here : ℕ → Verdict
-here reason = at "ZZX" 1 1 1 1 1 reason
-
 abbrev pub DayBeforeList : Type 0
 DayBeforeList =
-    map toldLeaf ("" ∷ "20240230101500Z" ∷ "20240230\\" ∷ "20240232" ∷ "20240230" ∷ "20240231" ∷ "20240228" ∷ "20240229" ∷ [])
-    ≡ here 3 ∷ here 5 ∷ here 6 ∷ here 7 ∷ here 13 ∷ here 13 ∷ here 8 ∷ accepted ∷ []
+    map (toldLeaf dated)
+    ("" ∷ "20240230101500Z\\" ∷ "20240230101500Z" ∷ "20240232" ∷ "20240230" ∷ "20240231" ∷ "20240228" ∷ "20240229" ∷ [])
+    ≡ here 3 ∷ here 6 ∷ here 5 ∷ here 7 ∷ here 13 ∷ here 13 ∷ here 8 ∷ accepted ∷ []

@@ -9,8 +9,8 @@ use Rattle.text.specs.Bytes.{Text, pick, empty, some, keep, same, isOne}
 use Rattle.text.specs.Answer.{Answer, first}
 use Rattle.text.specs.declared.marks.Marks.{Marks}
 use Rattle.text.specs.Marks.{marksOf}
-use Rattle.escape.specs.Escape.{badEscape}
-use Rattle.text.specs.Limits.{tooLong, _to_, isWithin}
+use Rattle.escape.specs.Escape.{badEscape, tooLong}
+use Rattle.text.specs.Limits.{_to_, isWithin}
 use Rattle.frame.specs.Frame.{frameTests}
 use Rattle.profile.specs.Table.{Table, Codes, any, only, Leaf, Usage, O, R, C, ofType, noSuchDay, mayFollow, mayEnd}
 use Rattle.checks.specs.Place.{Place, place}
@@ -29,13 +29,13 @@ abbrev pub listChecks : Place → Codes → Text → List Check
 listChecks p any t = []
 listChecks p (only codes n) t = check p n (not (empty t) && not (isOne t codes)) ∷ []
 
--- A LEAF'S OWN RULE: Empty passes unless it is starred; else too long, bad escape, not of its type, no such day, not in its list. (No bytes are never too long,
--- have no bad escape and name no day)
+-- A LEAF'S OWN RULE: Empty passes unless it is starred; else bad escape, too long, not of its type, no such day, not in its list. (No bytes have no bad escape,
+-- are never too long and name no day)
 abbrev pub leafChecks : Marks → Place → Leaf → Text → List Check
 leafChecks q p l t =
     check p 3 (empty t && l .star)
-    ∷ check p 5 (tooLong (l .limit) t)
     ∷ check p 6 (badEscape q t)
+    ∷ check p 5 (tooLong q (l .limit) t)
     ∷ check p 7 (not (empty t) && not (ofType (l .type) t))
     ∷ check p 13 (noSuchDay (l .type) t)
     ∷ listChecks p (l .list) t

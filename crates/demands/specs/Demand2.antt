@@ -93,7 +93,7 @@ pub record Demand2 : Type 0 where
       → Stands m (placeOf p) a e (r .text)
   pub nothing :
       (m : RefT Text) (p : code-place.Place) (r : LookedUp) → LooksUp m p r → r .sort ≡ found.Empty → textAt (m .now) (placeOf p) ≡ []
-  -- THE BYTES of a resolved text and of a reply, which has at most 1,200 of them
+  -- THE BYTES of a resolved text and of a reply, which has at most 3,200 of them
   pub resolves : (t before after : Text) (n : ℕ) → Resolves t before (Bytes n) after → Wrote (resolved usual t) before after n
   pub replies :
       (m stamp number before after : Text) (n : ℕ) → Replies profile01 m stamp number before (Bytes n) after

@@ -1,6 +1,6 @@
 -- Laws of escapes: what a reader from the left finds at the end, at a byte that is no \, and at a \.
-use mathlib.Core.Path.{_≡_, refl, sym, ap, _∙_}
-use Prim.Native.Nat.{ℕ, zero, suc, _+_, _-_, _≤_, _<_}
+use mathlib.Core.Path.{_≡_, refl, sym, ap, subst, _∙_}
+use Prim.Native.Nat.{ℕ, zero, suc, _+_, _*_, _-_, _≤_, _<_}
 use native.Mathlib.Numerals.{add-one}
 use native.Mathlib.Omega.{arith}
 use mathlib.Core.Bool.{Bool, true, false, not, _&&_, _||_}
@@ -16,12 +16,15 @@ use Rattle.text.specs.Marks.{usual}
 use Rattle.escape.specs.Escape.{five, isEscape, standsFor, stops, badEscape, resolved, resolve}
 use Rattle.escape.specs.Step.{isOther, isLetter, meant}
 use Rattle.escape.specs.Promise.{Resolves}
+use Rattle.escape.specs.Length.{Measures}
+use Rattle.escape.specs.declared.Length.{Length}
+use Rattle.escape.specs.declared.Length.the-variants as measured
 use Rattle.text.specs.Puts.{Puts}
 use Rattle.text.specs.declared.marks.Marks.{Marks}
 use Rattle.text.specs.declared.refusal.Refusal.the-variants.{NoRoom, BadEscape}
 use Rattle.text.specs.declared.Written.{Written}
 use Rattle.text.specs.declared.Written.the-variants.{Refused, Bytes}
-use Rattle.text.proofs.Tests.{not-true, both, and-false}
+use Rattle.text.proofs.Tests.{not-true, both, and-false, picks}
 use Rattle.text.proofs.Lists.{or-false, and-true}
 use Rattle.text.proofs.Puts.{puts-front-room, puts-front-ends, puts-front}
 
@@ -124,6 +127,14 @@ module _ (q : Marks) where
       let h = both (isOther (q .escape) b) (every (isOther (q .escape)) t) e in
       byte-bad b t (not-taken (eqb b (q .escape)) (h .0)) ∙ free-good t (h .1)
 
+  -- and reads as it is written
+  pub free-resolved : (t : Text) → every (isOther (q .escape)) t ≡ true → resolved q t ≡ t
+  unfolding every
+  free-resolved [] e = resolved-none
+  free-resolved (b ∷ t) e =
+      let h = both (isOther (q .escape) b) (every (isOther (q .escape)) t) e in
+      byte-resolved b t (not-taken (eqb b (q .escape)) (h .0)) ∙ ap (_∷_ b) (free-resolved t (h .1))
+
 -- a person reads byte b at i, and goes on at n
 pub record Goes (q : Marks) (t : Text) (i n b : ℕ) : Type 0 where
   pub within : n ≤ length t
@@ -196,28 +207,39 @@ module _ (q : Marks) (t : Text) (i : ℕ) where
       rw (one, two, drop-cons t i 0 a, drop-cons t (suc i) 0 b, drop-cons t (suc (suc i)) 0 c)
       (escape-front q (getD t i 0) (getD t (suc i) 0) (getD t (suc (suc i)) 0) (drop (suc (suc (suc i))) t) ∙ rw (eq-eqb (getD t i 0) (q .escape) e))
 
--- n bytes of the resolved text are counted when the reader stands at i
+-- what is known of a length is known of the case that a match has found
+pub measures-as : (q : Marks) (t : Text) (r s : Length) → r ≡ s → Measures q t r → Measures q t s
+measures-as q t r s e m = subst (Measures q t) e m
+
+-- n bytes of the resolved text are counted when the reader stands at i, and no bad escape was met
 pub record Counted (q : Marks) (t : Text) (n i : ℕ) : Type 0 where
   pub within : i ≤ length t
   pub fewer : n ≤ i
-  pub good : badEscape q (drop i t) ≡ false
+  pub bad : badEscape q (drop i t) ≡ badEscape q t
   pub told : n + length (resolved q (drop i t)) ≡ length (resolved q t)
 
 module _ (q : Marks) (t : Text) where
-  pub counted-none : badEscape q t ≡ false → Counted q t 0 0
-  counted-none g = record { within = omega arith; fewer = omega arith; good = g; told = omega arith }
+  pub counted-none : Counted q t 0 0
+  counted-none = record { within = omega arith; fewer = omega arith; bad = refl; told = omega arith }
 
   pub counted-more : (n i j b : ℕ) → i < j → Goes q t i j b → Counted q t n i → Counted q t (n + 1) j
   counted-more n i j b h g c =
       record {
         within = g .within;
         fewer = omega arith;
-        good = sym (g .bad) ∙ c .good;
+        bad = sym (g .bad) ∙ c .bad;
         told = omega (arith, ap length (g .reads));
       }
 
-  pub counted-all : (n i : ℕ) → length t ≤ i → Counted q t n i → n ≡ length (resolved q t)
-  counted-all n i h c = omega (arith, c .told, ap length (reads-end q t i h))
+  pub counted-bad : (n i : ℕ) → i < length t → getD t i 0 ≡ q .escape → isEscape q (drop i t) ≡ false → Counted q t n i → Measures q t measured.BadEscape
+  counted-bad n i h e b c = sym (c .bad) ∙ escape-bad q t i h e b
+
+  pub counted-all : (n i : ℕ) → length t ≤ i → Counted q t n i → Measures q t (measured.Bytes n)
+  counted-all n i h c = (sym (c .bad) ∙ bad-end q t i h, omega (arith, c .told, ap length (reads-end q t i h)))
+
+  -- with no \ in it, it is as long as it is written
+  pub counted-free : every (isOther (q .escape)) t ≡ true → Measures q t (measured.Bytes (length t))
+  counted-free e = (free-good q t e, ap length (sym (free-resolved q t e)))
 
 -- a buffer with the rest still to be written at n
 abbrev filled : ℕ → Text → Text → Text
@@ -273,7 +295,7 @@ module _ (q : Marks) (t before : Text) (at : ℕ) where
           ends = omega (arith, f .left, ap length (reads-end q t i h));
         }
 
--- each stop is at a byte of its own: a text resolved is no longer
+-- each stop is at a byte of its own: a text resolved is no longer; and from a stop to the next are three bytes at most
 module _ (q : Marks) where
   stops-length : (n : ℕ) (t : Text) → length (stops q n t) ≤ length t
   unfolding stops
@@ -284,6 +306,18 @@ module _ (q : Marks) where
   pub resolved-length : (t : Text) → length (resolved q t) ≤ length t
   unfolding resolved
   resolved-length t = omega (arith, length-map (stops q 0 t) (standsFor q (five q)), stops-length 0 t)
+
+  stops-apart : (n : ℕ) (t : Text) → length t ≤ n + 3 * length (stops q n t)
+  unfolding stops
+  stops-apart n [] = omega arith
+  stops-apart (suc n) (b ∷ t) = omega (arith, stops-apart n t)
+  stops-apart zero (b ∷ t) =
+      let n : ℕ = pick (isEscape q (b ∷ t)) 2 0 in
+      omega (arith, stops-apart n t, picks (λ (k : ℕ). k ≤ 2) (isEscape q (b ∷ t)) {x = 2} {y = 0} (omega arith) (omega arith))
+
+  pub written-length : (t : Text) → length t ≤ 3 * length (resolved q t)
+  unfolding resolved
+  written-length t = omega (arith, length-map (stops q 0 t) (standsFor q (five q)), stops-apart 0 t)
 
 -- the three answers of resolving
 module _ (q : Marks) (t : Text) (room : ℕ) where

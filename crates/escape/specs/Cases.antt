@@ -2,13 +2,14 @@
 -- Short texts with escapes, each the shortest that a wrong reading of 01 would resolve otherwise.
 use Prim.Native.String.{String}
 use mathlib.Core.Path.{_≡_}
+use mathlib.Core.Bool.{Bool, true, false}
 use mathlib.Core.List.{List, [], _∷_, map}
 use lib.ListN.{length}
 use Rattle.text.specs.Bytes.{Text, bytes}
 use Rattle.text.specs.Answer.{Answer, refused, given}
 use Rattle.text.specs.Marks.{usual}
 use Rattle.text.specs.declared.refusal.Refusal.the-variants.{BadEscape}
-use Rattle.escape.specs.Escape.{resolve}
+use Rattle.escape.specs.Escape.{resolve, tooLong}
 
 pub record Case : Type 0 where
   pub text : String
@@ -69,3 +70,12 @@ cases =
 -- THE DEFINITION SAYS SO of each
 abbrev pub CasesHold : Type 0
 CasesHold = map told cases ≡ map wanted cases
+
+-- too long for a limit of three bytes: an escape counts one, whichever it is
+abbrev pub isLong : String → Bool
+isLong t = tooLong usual 3 (bytes t)
+
+abbrev pub LengthsHold : Type 0
+LengthsHold =
+    map isLong ("" ∷ "abc" ∷ "abcd" ∷ "\\T\\bc" ∷ "\\T\\bcd" ∷ "\\F\\\\S\\\\R\\" ∷ "\\F\\\\S\\\\R\\\\E\\" ∷ [])
+    ≡ false ∷ false ∷ true ∷ false ∷ true ∷ false ∷ true ∷ []

@@ -67,6 +67,10 @@ badEscape q t = some (isBad q) (stops q 0 t)
 unfoldable pub resolved : Marks → Text → Text
 resolved q t = map (standsFor q (five q)) (stops q 0 t)
 
+-- TOO LONG: a limit is for the text that a person reads, so an escape counts one byte
+abbrev pub tooLong : Marks → ℕ → Text → Bool
+tooLong q limit t = ltb limit (length (resolved q t))
+
 abbrev pub resolveTests : Marks → Text → ℕ → List Test
 resolveTests q t room =
     test BadEscape (badEscape q t) ∷ test NoRoom (ltb room (length (resolved q t))) ∷ []

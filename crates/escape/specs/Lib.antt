@@ -5,3 +5,4 @@ pub mod Promise
 pub mod Cases
 -- Inner: no entry's promise is made of this.
 pub mod Step
+pub mod Length

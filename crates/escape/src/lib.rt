@@ -1,10 +1,11 @@
-// Escapes: the test for a bad one, and the text that a person reads.
+// Escapes: the text that a person reads, and its length. A text with a bad escape has neither.
 ghost use mathlib.Core.Path.{_≡_};
 ghost use mathlib.Core.Bool.{false};
 ghost use Prim.Native.Nat.{_+_, _≤_, _<_};
 ghost use lib.ListN.{length, getD, drop};
 ghost use Rattle.text.specs.Bytes.{every};
 ghost use Rattle.escape.specs.Escape.{isEscape, badEscape, resolved};
+ghost use Rattle.escape.specs.Length.{Measures};
 ghost use Rattle.escape.specs.Promise.{Resolves};
 ghost use Rattle.text.specs.Puts.{Puts};
 ghost use Rattle.escape.specs.Step.{isOther, isLetter};
@@ -57,51 +58,40 @@ fn is_free(t: &[u8], mark: u8) -> bool
     ok
 }
 
-// Whether some \ of the text begins none of the five escapes, escape by escape.
-fn some_bad(q: Marks, t: &[u8]) -> bool
-    ensures { λ r. ⌜ r ≡ badEscape q (now (t .entry)) ⌝ }
-{
-    let mut i = 0;
-    while i < t.len() {
-        if t[i] == q.escape {
-            if !is_escape(q, t, i) {
-                return true;
-            }
-            i += 3;
-        } else {
-            i += 1;
-        }
-    }
-    false
+// The length of the text that a person reads; a text with a bad escape has none.
+pub enum Length {
+    BadEscape,
+    Bytes(usize),
 }
 
-// The same: most texts have no \ at all.
-pub fn bad_escape(q: Marks, t: &[u8]) -> bool
-    ensures { λ r. ⌜ r ≡ badEscape q (now (t .entry)) ⌝ }
-{
-    if is_free(t, q.escape) {
-        return false;
-    }
-    some_bad(q, t)
-}
-
-// How many bytes the resolved text has: with no bad escape, each \ that is read begins three bytes that stand for one.
-// Inner: the callers hold that there is no bad escape.
-pub fn resolved_len(q: Marks, t: &[u8]) -> usize
-    requires { ⌜ badEscape q (now t) ≡ false ⌝ }
-    ensures { λ r. ⌜ r ≡ length (resolved q (now (t .entry))) ⌝ }
+// The length of a text, escape by escape: the three bytes of each stand for one.
+fn counted(q: Marks, t: &[u8]) -> Length
+    ensures { λ r. ⌜ Measures q (now (t .entry)) r ⌝ }
 {
     let mut n = 0;
     let mut i = 0;
     while i < t.len() {
         n += 1;
         if t[i] == q.escape {
+            if !is_escape(q, t, i) {
+                return Length::BadEscape;
+            }
             i += 3;
         } else {
             i += 1;
         }
     }
-    n
+    Length::Bytes(n)
+}
+
+// The same: most texts have no \ at all, and are as long as they are written.
+pub fn resolved_len(q: Marks, t: &[u8]) -> Length
+    ensures { λ r. ⌜ Measures q (now (t .entry)) r ⌝ }
+{
+    if is_free(t, q.escape) {
+        return Length::Bytes(t.len());
+    }
+    counted(q, t)
 }
 
 // Puts the resolved text at a place, and answers where it ends. Inner: the callers hold that there is room and no bad escape.
@@ -131,11 +121,13 @@ pub fn resolve(text: &[u8], buffer: &mut [u8]) -> Written
     ensures { λ r. ⌜ Resolves (now (text .entry)) (now (buffer .entry)) r (now (buffer .exit)) ⌝ }
 {
     let q = usual_marks();
-    if bad_escape(q, text) {
-        return Written::Refused(Refusal::BadEscape);
+    match resolved_len(q, text) {
+        Length::BadEscape => Written::Refused(Refusal::BadEscape),
+        Length::Bytes(n) => {
+            if buffer.len() < n {
+                return Written::Refused(Refusal::NoRoom);
+            }
+            Written::Bytes(put_resolved(buffer, 0, q, text))
+        }
     }
-    if buffer.len() < resolved_len(q, text) {
-        return Written::Refused(Refusal::NoRoom);
-    }
-    Written::Bytes(put_resolved(buffer, 0, q, text))
 }

@@ -10,9 +10,10 @@ use lib.Dec.{eqb, ltb}
 use borrow.Author.Tests.{not-true}
 use Rattle.profile.specs.Numbers.{componentColumn, rowSize, subcomponentColumn}
 use Rattle.text.specs.Bytes.{Text, every, within}
-use Rattle.escape.specs.Escape.{badEscape}
+use Rattle.escape.specs.Length.{Measures}
+use Rattle.escape.specs.declared.Length.the-variants.{Bytes}
 use Rattle.escape.specs.Step.{isOther}
-use Rattle.escape.proofs.Escapes.{free-good}
+use Rattle.escape.proofs.Escapes.{counted-free}
 use Rattle.text.specs.declared.marks.Marks.{Marks}
 use Rattle.text.proofs.Tests.{both}
 use native.Mathlib.Nat.{zero-add}
@@ -63,8 +64,9 @@ module _ (q : Marks) where
         escape = and-both (isOther (q .escape) b) (every (isOther (q .escape)) x) (ap not (c .1)) (w .escape);
       }
 
-  pub flat-plain : (x : Text) → isFlat q x ≡ true → badEscape q x ≡ false
-  flat-plain x h = free-good q x (flat x h .escape)
+  -- it reads as it is written
+  pub flat-plain : (x : Text) → isFlat q x ≡ true → Measures q x (Bytes (length x))
+  flat-plain x h = counted-free q x (flat x h .escape)
 
   -- it is its own first subcomponent
   flat-leaf : (x : Text) → isFlat q x ≡ true → span 0 x ≡ span (start (q .subcomponent) 1 x) (piece 1 (split (q .subcomponent) x))
@@ -90,8 +92,8 @@ module _ {s : Text} {q : Marks} {table : List ℕ} {first end : ℕ} {filled : B
   abbrev text : Text
   text = within (d .start) (d .end) s
 
-  pub flat-good : badEscape q text ≡ false
-  flat-good = flat-plain q text (flat-within q (d .start) (d .end) s clean)
+  pub flat-measured : Measures q text (Bytes (length text))
+  flat-measured = flat-plain q text (flat-within q (d .start) (d .end) s clean)
 
   found-at : span 0 text ≡ span (start (q .subcomponent) (getD table (at + subcomponentColumn) 0) text) (piece (getD table (at + subcomponentColumn) 0) (split (q .subcomponent) text))
   found-at = rw sub (flat-leaf q text (flat-within q (d .start) (d .end) s clean))

@@ -124,7 +124,8 @@ module _ (q : Marks) (x : Text) (clean : isFlat q x ≡ true) (filled : 1 ≤ le
   leaf-good l t p =
       let c = l .component in
       let fits : length (component c) ≤ l .limit = omega (arith, piece-le (q .component) c x, t .limit, short) in
-      rw (t .first, leaf-is c, starred (l .star) c (t .star), le-ltb (l .limit) (length (component c)) fits, flat-plain q (component c) (component-flat c), any-type (l .type) (component c) (t .type), any-day (l .type) (component c) (t .type), any-code p (l .list) (component c) (t .list), and-false (not (empty (component c))))
+      let plain = flat-plain q (component c) (component-flat c) in
+      rw (t .first, leaf-is c, starred (l .star) c (t .star), plain .0, ← plain .1, le-ltb (l .limit) (length (component c)) fits, any-type (l .type) (component c) (t .type), any-day (l .type) (component c) (t .type), any-code p (l .list) (component c) (t .list), and-false (not (empty (component c))))
 
   leaves-good : (ls : List Leaf) → every (takesUpTo n) ls ≡ true → (m : Text) (o f k : ℕ)
       → firstBroken (repetitionChecks q m o f (record { number = k; entries = entriesOf q ls x })) ≡ accepted

@@ -66,7 +66,7 @@ fn one_leaf_passes(s: &[u8], q: Marks, table: &[u16], rows: Rows) -> bool
     if leaf.len() == 0 {
         return false;
     }
-    plain_reason(leaf, table, at) == reasons::NOTHING_BROKEN
+    plain_reason(leaf, table, at, leaf.len()) == reasons::NOTHING_BROKEN
 }
 
 // Whether the components are seen to be leaves that break nothing, some of them filled.
@@ -92,7 +92,7 @@ fn leaves_pass(s: &[u8], q: Marks, table: &[u16], rows: Rows) -> bool
         let to = cursor.end;
         let leaf = &s[from..to];
         if !takes_any(leaf.len(), table, at) {
-            if plain_reason(leaf, table, at) != reasons::NOTHING_BROKEN {
+            if plain_reason(leaf, table, at, leaf.len()) != reasons::NOTHING_BROKEN {
                 return false;
             }
         }

@@ -1,13 +1,12 @@
 -- An entry's promise is made of this.
 -- The reply's header: its exact bytes, of the message's own header, a stamp and a reply number.
 use Prim.Native.Nat.{ℕ}
-use mathlib.Core.Bool.{_||_}
+use mathlib.Core.Bool.{Bool, _||_}
 use mathlib.Core.List.{List, [], _∷_, _++_}
 use Rattle.text.specs.Bytes.{Text, pick, bytes, isOne}
 use Rattle.text.specs.declared.marks.Marks.{Marks}
 use Rattle.text.specs.Marks.{usual, marksOf}
-use Rattle.escape.specs.Escape.{badEscape}
-use Rattle.text.specs.Limits.{tooLong}
+use Rattle.escape.specs.Escape.{badEscape, tooLong}
 use Rattle.parts.specs.Split.{join, trimmed}
 use Rattle.frame.specs.Frame.{header}
 use Rattle.profile.specs.Table.{IS, ST, ID}
@@ -19,9 +18,13 @@ use Rattle.reader.specs.Place.{place, textAt}
 abbrev pub headerLeaf : Text → ℕ → ℕ → Text
 headerLeaf m f c = textAt m (place (bytes "MSH") 1 f 1 c 1)
 
--- an HD leaf too long or with a bad escape is left empty
+-- with a bad escape, or too long
+abbrev pub isUnfit : Marks → ℕ → Text → Bool
+isUnfit q limit t = badEscape q t || tooLong q limit t
+
+-- an unfit HD leaf is left empty; another is copied as it is written
 abbrev pub orEmpty : Marks → ℕ → Text → Text
-orEmpty q limit t = pick (tooLong limit t || badEscape q t) [] t
+orEmpty q limit t = pick (isUnfit q limit t) [] t
 
 -- an HD as it is copied: three components
 abbrev pub hdOf : Marks → Text → Text → Text → Text

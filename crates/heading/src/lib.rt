@@ -3,18 +3,16 @@
 pub mod copied;
 
 ghost use mathlib.Core.Path.{_≡_};
-ghost use mathlib.Core.Bool.{_||_};
 ghost use mathlib.Core.List.{[], _∷_, _++_};
 ghost use Prim.Native.Nat.{_+_, _≤_};
 ghost use lib.ListN.{length};
 ghost use Rattle.text.specs.Bytes.{pick, byte, cr};
-ghost use Rattle.escape.specs.Escape.{badEscape};
 ghost use Rattle.text.specs.Puts.{Puts};
-ghost use Rattle.text.specs.Limits.{tooLong};
 ghost use Rattle.reader.specs.FromField.{firstLeaf};
-ghost use Rattle.heading.specs.Header.{orEmpty, processing, replyHeader};
+ghost use Rattle.heading.specs.Header.{isUnfit, orEmpty, processing, replyHeader};
 ghost use Rattle.heading.specs.Inner.{HeaderFrom, Opened, withSeparator, hdThere, parties};
-use escape::bad_escape;
+use escape::Length;
+use escape::resolved_len;
 use reader::behind;
 use reader::field_leaf;
 use reader::first_leaf;
@@ -24,11 +22,14 @@ use text::Marks;
 use text::marks_of;
 use text::put;
 
-// Whether a leaf is too long or has a bad escape.
+// Whether a leaf has a bad escape, or is too long when it is read.
 pub fn is_unfit(q: Marks, limit: usize, t: &[u8]) -> bool
-    ensures { λ r. ⌜ r ≡ (tooLong limit (now (t .entry)) || badEscape q (now (t .entry))) ⌝ }
+    ensures { λ r. ⌜ r ≡ isUnfit q limit (now (t .entry)) ⌝ }
 {
-    (limit < t.len()) | bad_escape(q, t)
+    match resolved_len(q, t) {
+        Length::BadEscape => true,
+        Length::Bytes(n) => limit < n,
+    }
 }
 
 // The first leaf of the components that stand there as it is copied: no bytes where it is unfit.

@@ -9,14 +9,16 @@ use lib.Seq.{getD-drop}
 use lib.Dec.{eqb, leb}
 use borrow.Author.Tests.{eq-eqb, ne-eqb, lt-ltb, le-ltb, leb-true}
 use Rattle.text.specs.Bytes.{Text, pick, empty}
-use Rattle.escape.specs.Escape.{badEscape}
+use Rattle.escape.specs.Escape.{badEscape, resolved}
+use Rattle.escape.specs.Length.{Measures}
+use Rattle.escape.specs.declared.Length.the-variants.{Bytes}
 use Rattle.text.specs.declared.marks.Marks.{Marks}
 use Rattle.text.proofs.Tests.{both, not-true as no, empty-none, empty-some}
-use Rattle.profile.specs.Table.{Codes, any, only, ofType, noSuchDay}
+use Rattle.profile.specs.Table.{Codes, any, only, Leaf, ofType, noSuchDay}
 use Rattle.profile.specs.Numbers.{leafOf, simpleOf, codesOf, isInList, limitColumn, listColumn, reasonColumn, starColumn, typeColumn}
 use Rattle.profile.specs.Order.{reasonFits}
 use Rattle.profile.proofs.Days.{empty-day}
-use Rattle.escape.proofs.Escapes.{bad-none}
+use Rattle.escape.proofs.Escapes.{bad-none, resolved-length}
 use Rattle.codes.proofs.Numbered.{other-type, other-day}
 use Rattle.checks.specs.Place.{Place}
 use Rattle.checks.specs.Fault.{Verdict, accepted, fault, Check, check, listChecks, leafChecks, firstBroken}
@@ -27,8 +29,14 @@ no-escape : (q : Marks) (s : Text) → length s ≡ 0 → badEscape q s ≡ fals
 no-escape q [] e = bad-none q
 no-escape q (b ∷ s) e = absurd (omega arith)
 
-pub escape-some : (q : Marks) (s : Text) → badEscape q s ≡ true → length s ≡ 0 → ⊥
-escape-some q s e none = no (sym (no-escape q s none) ∙ e)
+-- a text with a bad escape has some bytes, and nothing is told before it
+some-bytes : (q : Marks) (s : Text) → badEscape q s ≡ true → empty s ≡ false
+some-bytes q [] e = no (sym (bad-none q) ∙ e)
+some-bytes q (b ∷ s) e = refl
+
+pub rule-escape : (q : Marks) (l : Leaf) (s : Text) → badEscape q s ≡ true → (p : Place) → fault p 6 ≡ firstBroken (leafChecks q p l s)
+unfolding firstBroken
+rule-escape q l s e p = rw (some-bytes q s e, e)
 
 -- the list's check, where there is one: Empty passes; any other text is in the list or not
 no-text : (p : Place) (c : Codes) (s : Text) → empty s ≡ true → firstBroken (listChecks p c s) ≡ accepted
@@ -87,30 +95,25 @@ module _ (q : Marks) (table : List ℕ) (at : ℕ) (s : Text) where
     pub rule-empty : (number starColumn ≡ 1 → ⊥) → (p : Place) → accepted ≡ first p
     unfolding firstBroken
     rule-empty e p =
-        rw (no-text p (leafOf (drop at table) .list) s (empty-none s none), empty-day (leafOf (drop at table) .type) s none, empty-none s none, no-escape q s none, getD-drop at table starColumn 0, ne-eqb (number starColumn) 1 e, le-ltb (getD (drop at table) limitColumn 0) (length s) (omega arith))
+        rw (no-text p (leafOf (drop at table) .list) s (empty-none s none), empty-day (leafOf (drop at table) .type) s none, empty-none s none, no-escape q s none, getD-drop at table starColumn 0, ne-eqb (number starColumn) 1 e, le-ltb (getD (drop at table) limitColumn 0) (length (resolved q s)) (omega (arith, resolved-length q s)))
 
   module _ (some : length s ≡ 0 → ⊥) where
     filled : empty s ≡ false
     filled = empty-some s some
 
-    pub rule-long : number limitColumn < length s → (p : Place) → fault p 5 ≡ first p
-    unfolding firstBroken
-    rule-long l p = rw (filled, getD-drop at table limitColumn 0, lt-ltb (number limitColumn) (length s) l)
-
-    module _ (fits : length s ≤ number limitColumn) where
-      short : (p : Place) → first p ≡ firstBroken (check p 6 (badEscape q s) ∷ check p 7 (not typed) ∷ check p 13 noSuch ∷ listChecks p list s)
+    module _ (n : ℕ) (measured : Measures q s (Bytes n)) where
+      pub rule-long : number limitColumn < n → (p : Place) → fault p 5 ≡ first p
       unfolding firstBroken
-      short p = rw (filled, getD-drop at table limitColumn 0, le-ltb (number limitColumn) (length s) fits, getD-drop at table typeColumn 0, getD-drop at table listColumn 0, getD-drop at table reasonColumn 0)
+      rule-long l p = rw (filled, measured .0, getD-drop at table limitColumn 0, ← measured .1, lt-ltb (number limitColumn) n l)
 
-      module _ (bad : Bool) (escaped : bad ≡ badEscape q s) where
-        pub rule-escape : bad ≡ true → (p : Place) → fault p 6 ≡ first p
+      module _ (fits : n ≤ number limitColumn) where
+        short : (p : Place) → first p ≡ firstBroken (check p 7 (not typed) ∷ check p 13 noSuch ∷ listChecks p list s)
         unfolding firstBroken
-        rule-escape e p = rw (short p, ← escaped, e)
+        short p = rw (filled, measured .0, getD-drop at table limitColumn 0, ← measured .1, le-ltb (number limitColumn) n fits, getD-drop at table typeColumn 0, getD-drop at table listColumn 0, getD-drop at table reasonColumn 0)
 
-        module _ (good : bad ≡ false) (why : ℕ) (is-why : why ≡ typeReason (simpleOf (number typeColumn)) s) where
+        module _ (why : ℕ) (is-why : why ≡ typeReason (simpleOf (number typeColumn)) s) where
           by-type : (p : Place) → first p ≡ pick (eqb why 0) (firstBroken (listChecks p list s)) (fault p why)
-          unfolding firstBroken
-          by-type p = rw (short p, ← escaped, good, is-why) (type-step typed noSuch p (listChecks p list s))
+          by-type p = rw (short p, is-why) (type-step typed noSuch p (listChecks p list s))
 
           pub rule-type : (why ≡ 0 → ⊥) → (p : Place) → told p why ≡ first p
           rule-type e p = rw (by-type p, ne-eqb why 0 e)
@@ -124,17 +127,12 @@ module _ (q : Marks) (table : List ℕ) (at : ℕ) (s : Text) where
             pub rule-good : not listed ≡ false → (p : Place) → accepted ≡ first p
             rule-good e p = rw (by-type p, taken, by-list p (number listColumn) (number reasonColumn) s filled, ← is-listed, e)
 
--- a text that is not too long has no bad escape
-pub plain-good : (q : Marks) (table : List ℕ) (at : ℕ) (s : Text) → (length s ≤ leafOf (drop at table) .limit → badEscape q s ≡ false)
-    → length s ≤ getD table (at + limitColumn) 0 → badEscape q s ≡ false
-plain-good q table at s good h = good (rw (getD-drop at table limitColumn 0) h)
-
 -- a leaf whose type and list take any text
 takes-any : (n : ℕ) (s : Text) → 4 < n → 0 ≡ typeReason (simpleOf n) s
 takes-any n s h = rw (← other-type n s (λ z. omega (arith, h, z)) (λ z. omega (arith, h, z)) (λ z. omega (arith, h, z)) (λ z. omega (arith, h, z)), other-day n s (λ z. omega (arith, h, z)))
 
-pub rule-any : (q : Marks) (table : List ℕ) (at : ℕ) (s : Text) → 0 < length s → length s ≤ getD table (at + limitColumn) 0 → 4 < getD table (at + typeColumn) 0 → getD table (at + listColumn) 0 ≡ 0 → badEscape q s ≡ false
-    → (p : Place) → accepted ≡ firstBroken (leafChecks q p (leafOf (drop at table)) s)
-rule-any q table at s some fits type list good p =
-    rule-good q table at s (λ z. omega (arith, z)) fits false (sym good) refl 0
+pub rule-any : (q : Marks) (table : List ℕ) (at : ℕ) (s : Text) (n : ℕ) → Measures q s (Bytes n) → 0 < n → n ≤ getD table (at + limitColumn) 0 → 4 < getD table (at + typeColumn) 0
+    → getD table (at + listColumn) 0 ≡ 0 → (p : Place) → accepted ≡ firstBroken (leafChecks q p (leafOf (drop at table)) s)
+rule-any q table at s n measured some fits type list p =
+    rule-good q table at s (λ z. omega (arith, z, some, measured .1, resolved-length q s)) n measured fits 0
     (takes-any (getD table (at + typeColumn) 0) s type) refl true (rw list) refl p

@@ -1,14 +1,14 @@
 -- Inner: no entry's promise is made of this.
 -- What only inner functions promise of judging a repetition: its first broken check, told from where a reader stands.
-use Prim.Native.Nat.{ℕ, _≤_}
+use Prim.Native.Nat.{ℕ}
 use mathlib.Core.Path.{_≡_}
-use mathlib.Core.Bool.{Bool, false}
+use mathlib.Core.Bool.{Bool}
 use mathlib.Core.List.{List, []}
-use lib.ListN.{length}
 use lib.Dec.{eqb}
 use Rattle.text.specs.Bytes.{Text, pick}
 use Rattle.text.specs.declared.marks.Marks.{Marks}
-use Rattle.escape.specs.Escape.{badEscape}
+use Rattle.escape.specs.Length.{Measures}
+use Rattle.escape.specs.declared.Length.the-variants.{Bytes}
 use Rattle.profile.specs.Table.{Simple, Leaf, ofType, noSuchDay}
 use Rattle.leaves.specs.declared.repetition.ReadRepetition.{ReadRepetition}
 use Rattle.checks.specs.Place.{Place, place}
@@ -28,13 +28,13 @@ typeReason k t = pick (ofType k t) (pick (noSuchDay k t) 13 0) 7
 abbrev pub ReadsLeaf : Marks → Leaf → Text → ℕ → Type 0
 ReadsLeaf q l s r = (p : Place) → told p r ≡ firstBroken (leafChecks q p l s)
 
--- of a text that has no bad escape, or is too long at the leaf
-abbrev pub ReadsPlain : Leaf → Text → ℕ → Type 0
-ReadsPlain l s r = (q : Marks) → (length s ≤ l .limit → badEscape q s ≡ false) → ReadsLeaf q l s r
+-- of a text that has no bad escape, and that a person reads as n bytes
+abbrev pub ReadsPlain : Leaf → Text → ℕ → ℕ → Type 0
+ReadsPlain l s n r = (q : Marks) → Measures q s (Bytes n) → ReadsLeaf q l s r
 
--- any text of n bytes with no bad escape will do at a leaf
+-- any such text will do at a leaf
 abbrev pub TakesAny : Leaf → ℕ → Type 0
-TakesAny l n = (q : Marks) (s : Text) → length s ≡ n → badEscape q s ≡ false → ReadsLeaf q l s 0
+TakesAny l n = (q : Marks) (s : Text) → Measures q s (Bytes n) → ReadsLeaf q l s 0
 
 -- LEAVES THAT ARE ALL MISSING: the first broken check; whether leaves before them are filled is handed on
 pub record ReadsMissing (ls : List Leaf) (filled : Bool) (r : ReadRepetition) : Type 0 where

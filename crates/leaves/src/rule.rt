@@ -11,7 +11,8 @@ ghost use Rattle.leaves.specs.Judged.{ReadsLeaf, ReadsPlain, TakesAny, t
 use checks::reasons;
 use codes::is_in_list;
 use codes::is_of_type;
-use escape::bad_escape;
+use escape::Length;
+use escape::resolved_len;
 use profile::columns;
 use profile::numbers;
 use text::Marks;
@@ -44,12 +45,12 @@ fn type_reason(s: &[u8], n: u16) -> u8
     reasons::NOTHING_BROKEN
 }
 
-// The reason of the first check that a leaf's text breaks, 0 where it breaks none; a caller who knows no bad escape in it asks this. The row of the leaf
-// begins at `at`.
-pub fn plain_reason(s: &[u8], table: &[u16], at: usize) -> u8
+// The reason of the first check that a leaf's text breaks, 0 where it breaks none. A caller who knows that it has no bad escape asks this, and says how many
+// bytes a person reads (`n`). The row of the leaf begins at `at`.
+pub fn plain_reason(s: &[u8], table: &[u16], at: usize, n: usize) -> u8
     requires { ⌜ (at + rowSize ≤ length (now table)) × HasLists (now table) ⌝ }
     requires { ⌜ reasonFits (leafOf (drop at (now table)) .list) ≡ true ⌝ }
-    ensures { λ r. ⌜ ReadsPlain (leafOf (drop at (now (table .entry)))) (now (s .entry)) r ⌝ }
+    ensures { λ r. ⌜ ReadsPlain (leafOf (drop at (now (table .entry)))) (now (s .entry)) n r ⌝ }
 {
     if s.len() == 0 {
         if table[at + columns::STAR] == numbers::STARRED {
@@ -57,7 +58,7 @@ pub fn plain_reason(s: &[u8], table: &[u16], at: usize) -> u8
         }
         return reasons::NOTHING_BROKEN;
     }
-    if (table[at + columns::LIMIT] as usize) < s.len() {
+    if (table[at + columns::LIMIT] as usize) < n {
         return reasons::TOO_LONG;
     }
     let reason = type_reason(s, table[at + columns::TYPE]);
@@ -71,21 +72,19 @@ pub fn plain_reason(s: &[u8], table: &[u16], at: usize) -> u8
     reasons::NOTHING_BROKEN
 }
 
-// The same of any text: a bad escape is told where the text is not too long, before its type and its list.
+// The same of any text. A bad escape is told first; else the limit is for the text that a person reads.
 pub fn leaf_reason(s: &[u8], q: Marks, table: &[u16], at: usize) -> u8
     requires { ⌜ (at + rowSize ≤ length (now table)) × HasLists (now table) ⌝ }
     requires { ⌜ reasonFits (leafOf (drop at (now table)) .list) ≡ true ⌝ }
     ensures { λ r. ⌜ ReadsLeaf q (leafOf (drop at (now (table .entry)))) (now (s .entry)) r ⌝ }
 {
-    if s.len() <= table[at + columns::LIMIT] as usize {
-        if bad_escape(q, s) {
-            return reasons::BAD_ESCAPE;
-        }
+    match resolved_len(q, s) {
+        Length::BadEscape => reasons::BAD_ESCAPE,
+        Length::Bytes(n) => plain_reason(s, table, at, n),
     }
-    plain_reason(s, table, at)
 }
 
-// Whether any text of that length, with no bad escape, will do at the leaf of a row: it has some bytes and not too many, and the leaf's type
+// Whether any text that a person reads as so many bytes will do at the leaf of a row: they are some and not too many, and the leaf's type
 // and list take all. Most leaves are of this kind, and this spares them the call.
 pub fn takes_any(n: usize, table: &[u16], at: usize) -> bool
     requires { ⌜ at + rowSize ≤ length (now table) ⌝ }

@@ -3,8 +3,9 @@
 use mathlib.Core.Bool.{Bool, true, not, _&&_}
 use mathlib.Core.List.{List, [], _∷_}
 use lib.ListN.{length}
+use lib.Dec.{leb}
 use Rattle.text.specs.Bytes.{Text, every, isOne}
-use Rattle.text.specs.Limits.{_to_, isWithin, tooLong}
+use Rattle.text.specs.Limits.{_to_, isWithin}
 use Rattle.profile.specs.Table.{Codes, any, only, Leaf, Listed, leaf, named-by, Row, Type-leaves, Table, ofType, noSuchDay}
 
 -- no text is one of those after it
@@ -12,10 +13,11 @@ unfoldable pub distinct : List Text → Bool
 distinct [] = true
 distinct (t ∷ ts) = not (isOne t ts) && distinct ts
 
--- a code is not Empty and has at most 20 bytes; it passes its own list, and the leaf's limit and type; its day exists, if it is a date
+-- a code is not Empty and has at most 20 bytes; it passes its own list, and the leaf's limit (its written bytes do, so what a person reads does) and type; its day
+-- exists, if it is a date
 abbrev pub isTaken : Leaf → List Text → Text → Bool
 isTaken l codes c =
-    isWithin (1 to 20) (length c) && isOne c codes && not (tooLong (l .limit) c) && ofType (l .type) c && not (noSuchDay (l .type) c)
+    isWithin (1 to 20) (length c) && isOne c codes && leb (length c) (l .limit) && ofType (l .type) c && not (noSuchDay (l .type) c)
 
 abbrev pub listTaken : Leaf → Codes → Bool
 listTaken l any = true

@@ -1,5 +1,5 @@
 -- An entry's promise is made of this.
--- 01's limits, in written bytes.
+-- 01's limits, in bytes of the text that a person reads.
 use Prim.Native.Nat.{ℕ}
 use mathlib.Core.List.{List, [], _∷_}
 use Rattle.profile.specs.Table.{Simple, SI, NM, DTM, TM, ST, TX, FT, ID, IS}

@@ -1,5 +1,5 @@
--- No reply exceeds 1,200 bytes.
-use Prim.Native.Nat.{ℕ, suc, _+_, _≤_, _<_, _-_, _/_, _%_}
+-- No reply exceeds 3,200 bytes.
+use Prim.Native.Nat.{ℕ, suc, _+_, _*_, _≤_, _<_, _-_, _/_, _%_}
 use native.Mathlib.Omega.{arith}
 use mathlib.Core.Path.{_≡_, refl}
 use mathlib.Core.Bool.{Bool, true, false, _&&_, _||_}
@@ -10,9 +10,11 @@ use borrow.Author.Tests.{ltb-false, eqb-true, leb-true, lt-ltb}
 use Rattle.text.specs.Bytes.{Text, pick, bytes, byte, cr, digit, capitalOrDigit, empty, every, some, same, isOne}
 use Rattle.text.specs.Decimal.{digitsBefore, decimal}
 use Rattle.text.specs.Marks.{usual, marksOf}
-use Rattle.escape.specs.Escape.{badEscape}
+use Rattle.text.specs.declared.marks.Marks.{Marks}
+use Rattle.escape.specs.Escape.{badEscape, resolved, tooLong}
+use Rattle.escape.proofs.Escapes.{written-length}
 use Rattle.types.specs.Types.{isDTM, dayExists, isStamp, isReplyNumber}
-use Rattle.text.specs.Limits.{tooLong, _to_, isWithin}
+use Rattle.text.specs.Limits.{_to_, isWithin}
 use Rattle.text.proofs.Tests.{not-true, both, picks, same-true}
 use Rattle.text.proofs.Lists.{All, or-either, or-none}
 use Rattle.text.proofs.Digits.{decimal-length}
@@ -24,7 +26,7 @@ use Rattle.profile.specs.Limits.{limitOf, controlLimit}
 use Rattle.profile.specs.Profile.{profile01}
 use Rattle.reader.specs.Place.{Place}
 use Rattle.reader.specs.Fault.{Verdict, accepted, fault, verdict, condition}
-use Rattle.heading.specs.Header.{headerLeaf, orEmpty, copiedHD, processing, headerFields, replyHeader}
+use Rattle.heading.specs.Header.{headerLeaf, isUnfit, orEmpty, copiedHD, processing, headerFields, replyHeader}
 use Rattle.report.specs.Error.{firstRejection, code, withoutTrailingZeros, placeNumbers, placeText, conditionText, replyERR}
 use Rattle.reply.specs.Reply.{control, noControl, replyMSA, replyText, longestReply}
 use Rattle.reply.proofs.Small.{Small, SmallVerdict, smallTable, profile-small, verdict-small}
@@ -102,15 +104,19 @@ number-length t e =
     let w = both (isWithin (1 to 20) (length t)) (every capitalOrDigit t) e in
     leb-true (length t) 20 (both (leb 1 (length t)) (leb (length t) 20) (w .0) .1)
 
-within-step : (k : ℕ) (t : Text) (a b : Bool) → tooLong k t ≡ a → length (pick (a || b) [] t) ≤ k
-within-step k t true b e = omega arith
-within-step k t false true e = omega arith
-within-step k t false false e = ltb-false k (length t) e
+-- what is copied is written with three bytes at most for each that a person reads
+fit-length : (q : Marks) (k : ℕ) (t : Text) → isUnfit q k t ≡ false → length t ≤ 3 * k
+fit-length q k t e =
+    omega (arith, written-length q t, ltb-false k (length (resolved q t)) (or-none (badEscape q t) (tooLong q k t) e .1))
 
-or-empty-length : (m : Text) (k : ℕ) (t : Text) → length (orEmpty (marksOf m) k t) ≤ k
-or-empty-length m k t = within-step k t (tooLong k t) (badEscape (marksOf m) t) refl
+or-none-length : (k : ℕ) (t : Text) (unfit : Bool) → (unfit ≡ false → length t ≤ k) → length (pick unfit [] t) ≤ k
+or-none-length k t true h = omega arith
+or-none-length k t false h = h refl
 
-copied-length : (m : Text) (f : ℕ) → length (copiedHD m f) ≤ 241
+or-empty-length : (m : Text) (k : ℕ) (t : Text) → length (orEmpty (marksOf m) k t) ≤ 3 * k
+or-empty-length m k t = or-none-length (3 * k) t (isUnfit (marksOf m) k t) (fit-length (marksOf m) k t)
+
+copied-length : (m : Text) (f : ℕ) → length (copiedHD m f) ≤ 719
 unfolding copiedHD
 copied-length m f =
     trimmed-length (usual .component)
@@ -118,7 +124,7 @@ copied-length m f =
     ∷ orEmpty (marksOf m) (limitOf ST) (headerLeaf m f 2)
     ∷ orEmpty (marksOf m) (limitOf ID) (headerLeaf m f 3)
     ∷ [])
-    241
+    719
     (omega (
       arith,
       or-empty-length m (limitOf IS) (headerLeaf m f 1),
@@ -139,7 +145,7 @@ processing-step t false e = omega arith
 processing-length : (t : Text) → length (processing t) ≤ 1
 processing-length t = processing-step t (isOne t processing-ids) refl
 
-header-length : (m stamp number : Text) → length stamp ≡ 14 → length number ≤ 20 → length (replyHeader m stamp number) ≤ 1033
+header-length : (m stamp number : Text) → length stamp ≡ 14 → length number ≤ 20 → length (replyHeader m stamp number) ≤ 2945
 header-length m stamp number s n =
     omega (
       arith,
@@ -153,17 +159,16 @@ header-length m stamp number s n =
     )
 
 -- 4. The MSA
-control-length : (m : Text) → noControl m ≡ false → length (control m) ≤ 20
+control-length : (m : Text) → noControl m ≡ false → length (control m) ≤ 60
 control-length m e =
     let t = control m in
-    let w = or-none (empty t || tooLong controlLimit t) (badEscape (marksOf m) t) e in
-    ltb-false controlLimit (length t) (or-none (empty t) (tooLong controlLimit t) (w .0) .1)
+    fit-length (marksOf m) controlLimit t (or-none (empty t) (isUnfit (marksOf m) controlLimit t) e .1)
 
 code-length : (v : Verdict) → length (code v) ≤ 2
 code-length accepted = omega arith
 code-length (fault p n) = picks (Within 2) (ltb (condition n) firstRejection) (omega arith) (omega arith)
 
-msa-length : (m : Text) (v : Verdict) → length (control m) ≤ 20 → length (replyMSA m v) ≤ 27
+msa-length : (m : Text) (v : Verdict) → length (control m) ≤ 60 → length (replyMSA m v) ≤ 67
 msa-length m v h = omega (arith, join-length (usual .field) (bytes "MSA" ∷ code v ∷ control m ∷ []), code-length v)
 
 -- 5. The ERR: occurrence and repetition may take 20 digits each, since nothing here bounds them
@@ -218,7 +223,7 @@ err-length (fault p n) s =
       condition-length k,
     )
 
--- 6. The reply, by any table of small numbers: at most 1,034, 28 and 103 bytes with their CR
+-- 6. The reply, by any table of small numbers: at most 2,946, 68 and 103 bytes with their CR
 reply-length : (T : Table) → smallTable T ≡ true → (m stamp number : Text)
     → isStamp stamp ≡ true → isReplyNumber number ≡ true → noControl m ≡ false
     → length (replyText T m stamp number) ≤ longestReply
@@ -233,7 +238,7 @@ reply-length T ok m stamp number s n c =
       err-length v (verdict-small T ok m),
     )
 
--- NO REPLY EXCEEDS 1,200 BYTES
+-- NO REPLY EXCEEDS 3,200 BYTES
 pub reply-bound : (m stamp number : Text) → isStamp stamp ≡ true → isReplyNumber number ≡ true → noControl m ≡ false
     → length (replyText profile01 m stamp number) ≤ longestReply
 reply-bound m stamp number s n c = reply-length profile01 profile-small m stamp number s n c

@@ -1,5 +1,5 @@
 -- The control number as it is copied from the message's header: its test, and its writing.
-use mathlib.Core.Path.{_≡_, refl, sym, _∙_}
+use mathlib.Core.Path.{_≡_, refl, _∙_}
 use Prim.Native.Nat.{ℕ}
 use native.Mathlib.Omega.{arith}
 use mathlib.Core.Bool.{Bool, _||_}
@@ -11,14 +11,12 @@ use Rattle.text.specs.Bytes.{Text, bytes, empty}
 use Rattle.text.specs.Puts.{Puts}
 use Rattle.text.specs.declared.marks.Marks.{Marks}
 use Rattle.text.specs.Marks.{marksOf}
-use Rattle.escape.specs.Escape.{badEscape}
-use Rattle.text.specs.Limits.{tooLong}
-use Rattle.text.proofs.Lists.{or-assoc}
 use Rattle.reader.specs.declared.standing.Standing.{Standing}
 use Rattle.profile.specs.Limits.{controlLimit}
 use Rattle.reader.specs.Copied.{standing, segmentText}
 use Rattle.reader.specs.FromField.{FieldsFrom, firstRepetition, firstLeaf}
 use Rattle.reader.proofs.Copied.{standing-bytes}
+use Rattle.heading.specs.Header.{isUnfit}
 use Rattle.heading.specs.Inner.{HeaderFrom}
 use Rattle.heading.proofs.Heading.{leaf-copied}
 use Rattle.reply.specs.Reply.{control, noControl}
@@ -36,10 +34,8 @@ module _ (m tenth : Text) (from : HeaderFrom m 10 tenth) {q : Marks} (k : q ≡ 
   pub control-copied : t ≡ control m
   control-copied = (rw k at e) ∙ leaf-copied m 10 tenth from (omega arith)
 
-  pub control-tested : (u : Bool) → u ≡ (tooLong 20 t || badEscape q t) → (eqb (length t) 0 || u) ≡ noControl m
-  control-tested u w =
-      rw (w, k, empty-length t, control-copied)
-      (sym (or-assoc (empty (control m)) (tooLong controlLimit (control m)) (badEscape (marksOf m) (control m))))
+  pub control-tested : (u : Bool) → u ≡ isUnfit q controlLimit t → (eqb (length t) 0 || u) ≡ noControl m
+  control-tested u w = rw (w, k, empty-length t, control-copied)
 
   pub control-put : {before : Text} {at : ℕ} {after : Text} {r : ℕ} → Puts before at t after r → Puts before at (control m) after r
   control-put p = rw control-copied at p

@@ -117,7 +117,6 @@ module _ (m stamp number before : Text) where
   unfolding first
   acknowledges-control s n h = own-refused NoControlNumber (rw (s, n, h))
 
-  -- the reply as it is written aside, where every reply has room, and then to the front of the buffer
   module _ (fit : Fit m stamp number) where
     pub acknowledges-room : length t ≤ longestReply
     acknowledges-room = reply-bound m stamp number (fit .stamped) (fit .numbered) (fit .controlled)
@@ -126,6 +125,13 @@ module _ (m stamp number before : Text) where
     unfolding first
     passed = rw (fit .stamped, fit .numbered, fit .controlled)
 
+    -- the reply as it is written to the front of the buffer
+    pub acknowledges-put : {e : ℕ} {after : Text} → Puts before 0 t after e → Acknowledges m stamp number before (written.Bytes e) after
+    acknowledges-put {e} {after} p =
+        let g : own ≡ given t = passed ∙ rw (le-ltb (length before) (length t) (puts-front-room p)) in
+        record { answer = rw g (ap given (puts-front-ends p)); buffer = rw g (puts-front p) }
+
+    -- and as it is written aside, where every reply has room, before it is copied there
     module _ {out out' : Text} {r : ℕ} (aside : Puts out 0 t out' r) where
       pub acknowledges-full : length before < r → Acknowledges m stamp number before (written.Refused NoRoom) before
       acknowledges-full h =
@@ -133,11 +139,7 @@ module _ (m stamp number before : Text) where
 
       pub acknowledges-given : {e : ℕ} {after : Text} → Puts before 0 (within 0 r out') after e
           → Acknowledges m stamp number before (written.Bytes e) after
-      acknowledges-given {e} {after} copied =
-          let z : r - 0 ≡ r = omega arith in
-          let p : Puts before 0 t after e = rw (z, puts-head aside) at copied in
-          let g : own ≡ given t = passed ∙ rw (le-ltb (length before) (length t) (puts-front-room p)) in
-          record { answer = rw g (ap given (puts-front-ends p)); buffer = rw g (puts-front p) }
+      acknowledges-given {e} {after} copied = let z : r - 0 ≡ r = omega arith in acknowledges-put (rw (z, puts-head aside) at copied)
 
 -- THE REPLY, by the verdict: a verdict that is no refusal is told where the frame is good
 given-one : (v : code-verdict.Verdict) → OneOf (1 ∷ 2 ∷ []) (tagOf machine.the-type v) → (w : Verdict) × (verdictOf v ≡ given w)

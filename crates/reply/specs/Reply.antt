@@ -8,8 +8,6 @@ use lib.Dec.{ltb}
 use Rattle.text.specs.Bytes.{Text, bytes, cr, empty}
 use Rattle.text.specs.Answer.{Answer, Test, test, first}
 use Rattle.text.specs.Marks.{usual, marksOf}
-use Rattle.escape.specs.Escape.{badEscape}
-use Rattle.text.specs.Limits.{tooLong}
 use Rattle.types.specs.Types.{isStamp, isReplyNumber}
 use Rattle.text.specs.declared.refusal.Refusal.the-variants.{BadStamp, BadReplyNumber, NoControlNumber, NoRoom}
 use Rattle.parts.specs.Split.{join, closed}
@@ -17,15 +15,15 @@ use Rattle.frame.specs.Frame.{frameTests}
 use Rattle.profile.specs.Table.{Table}
 use Rattle.profile.specs.Limits.{controlLimit}
 use Rattle.reader.specs.Fault.{Verdict, verdict}
-use Rattle.heading.specs.Header.{headerLeaf, replyHeader}
+use Rattle.heading.specs.Header.{headerLeaf, isUnfit, replyHeader}
 use Rattle.report.specs.Error.{code, replyERR}
 
 abbrev pub control : Text → Text
 control m = headerLeaf m 10 1
 
--- Empty, over its limit, or with a bad escape
+-- Empty, with a bad escape, or over its limit
 abbrev pub noControl : Text → Bool
-noControl m = empty (control m) || tooLong controlLimit (control m) || badEscape (marksOf m) (control m)
+noControl m = empty (control m) || isUnfit (marksOf m) controlLimit (control m)
 
 abbrev pub replyMSA : Text → Verdict → Text
 replyMSA m v = join (usual .field) (bytes "MSA" ∷ code v ∷ control m ∷ [])
@@ -37,7 +35,7 @@ replyText T m stamp number =
 
 -- no reply exceeds it
 abbrev pub longestReply : ℕ
-longestReply = 1200
+longestReply = 3200
 
 -- its own tests, and those of the frame before them
 abbrev pub ownTests : Table → Text → Text → Text → ℕ → List Test
@@ -46,7 +44,7 @@ ownTests T m stamp number room =
     test BadStamp (not (isStamp stamp))
     -- 12 BAD REPLY NUMBER: not 1..20 capitals or digits
     ∷ test BadReplyNumber (not (isReplyNumber number))
-    -- 13 NO CONTROL NUMBER: MSH-10 leaf Empty, over its limit, or with a bad escape
+    -- 13 NO CONTROL NUMBER: MSH-10 leaf Empty, with a bad escape, or over its limit
     ∷ test NoControlNumber (noControl m)
     -- 14 NO ROOM: lent buffer shorter than the output
     ∷ test NoRoom (ltb room (length (replyText T m stamp number)))

@@ -30,7 +30,7 @@ use text::put;
 use types::is_reply_number;
 use types::is_stamp;
 
-// Whether the control number, of the message's header from MSH-10 on, is Empty, over its limit or with a bad escape.
+// Whether the control number, of the message's header from MSH-10 on, is Empty, with a bad escape or over its limit.
 fn has_no_control(m: &[u8], tenth: &[u8]) -> bool
     requires { ⌜ HeaderFrom (now m) 10 (now tenth) ⌝ }
     ensures { λ r. ⌜ r ≡ noControl (now (m .entry)) ⌝ }
@@ -63,8 +63,8 @@ fn put_reply(
     put_error(out, d, v)
 }
 
-// The reply to a message whose frame is good. It is written aside, where each reply has room; then the buffer's room is tested, and only
-// then is a byte of the buffer written.
+// The reply to a message whose frame is good. A buffer that has room for each reply is written at once. For a shorter one the reply is written aside, where each
+// has room; then the buffer's room is tested, and only then is a byte of the buffer written.
 fn acknowledge(m: &[u8], v: Verdict, stamp: &[u8], number: &[u8], buffer: &mut [u8]) -> Written
     requires { ⌜ verdictOf v ≡ given (Fault.verdict profile01 (now m)) ⌝ }
     ensures { λ r. ⌜ Acknowledges (now (m .entry)) (now (stamp .entry)) (now (number .entry)) (now (buffer .entry)) r (now (buffer .exit)) ⌝ }
@@ -80,6 +80,9 @@ fn acknowledge(m: &[u8], v: Verdict, stamp: &[u8], number: &[u8], buffer: &mut [
     let tenth = fields_in(m, header, copied::CONTROL_NUMBER);
     if has_no_control(m, tenth) {
         return Written::Refused(Refusal::NoControlNumber);
+    }
+    if limits::LONGEST_REPLY <= buffer.len() {
+        return Written::Bytes(put_reply(buffer, m, third, tenth, v, stamp, number));
     }
     let mut out = [0u8; limits::LONGEST_REPLY];
     let n = put_reply(&mut out, m, third, tenth, v, stamp, number);

@@ -1,4 +1,4 @@
 // How long a reply may be.
 
 // No reply is longer, in bytes.
-pub const LONGEST_REPLY: usize = 1200;
+pub const LONGEST_REPLY: usize = 3200;

@@ -2,10 +2,9 @@
 use Prim.Native.Nat.{ℕ, _≤_}
 use mathlib.Core.Path.{_≡_}
 use mathlib.Core.Bool.{true, false}
-use lib.ListN.{length}
 use Rattle.text.specs.Bytes.{Text, bytes}
-use Rattle.escape.specs.Escape.{badEscape}
 use Rattle.text.specs.Marks.{marksOf}
+use Rattle.escape.specs.Length.{Fits}
 use Rattle.frame.specs.Frame.{framed}
 use Rattle.frame.specs.Segments.{fewer}
 use Rattle.profile.specs.Profile.{profile01}
@@ -19,8 +18,8 @@ use Rattle.slip.proofs.Count.{observations-most}
 use Rattle.slip.proofs.Leaves.{control-fits, control-some, patient-fits, patient-some, placer-fits, filler-fits, filler-some, service-fits, service-some}
 
 module _ (m : Text) (f : framed m ≡ true) (a : verdict profile01 m ≡ accepted) where
-  taken : (p : Place) (most : ℕ) → (badEscape (marksOf m) (textAt m p) ≡ false) × (length (textAt m p) ≤ most) → Taken (marksOf m) most (textAt m p)
-  taken p most h = record { good = h .0; short = h .1; plain = text-plain m p f }
+  taken : (p : Place) (most : ℕ) → Fits (marksOf m) most (textAt m p) → Taken (marksOf m) most (textAt m p)
+  taken p most h = record { fits = h; plain = text-plain m p f }
 
   fitting : (g : ℕ) → 1 ≤ g → fewer m (bytes "OBR") g ≡ false → Fitting m g
   fitting g l e =

@@ -1,10 +1,10 @@
 -- What an accepted message has for the slip of a group.
 use Prim.Native.Nat.{ℕ, _≤_}
 use mathlib.Core.Path.{_≡_}
-use mathlib.Core.Bool.{true, false}
+use mathlib.Core.Bool.{true}
 use lib.ListN.{length}
 use Rattle.text.specs.Bytes.{Text, bytes, printable, every}
-use Rattle.escape.specs.Escape.{badEscape}
+use Rattle.escape.specs.Length.{Fits}
 use Rattle.text.specs.Marks.{marksOf}
 use Rattle.text.specs.declared.marks.Marks.{Marks}
 use Rattle.reader.specs.Place.{place, textAt}
@@ -13,8 +13,7 @@ use Rattle.slot.specs.Fields.{longestControl, longestText, greatestCount}
 
 -- a text that a slip takes, and one that it must have
 pub record Taken (q : Marks) (most : ℕ) (t : Text) : Type 0 where
-  pub good : badEscape q t ≡ false
-  pub short : length t ≤ most
+  pub fits : Fits q most t
   pub plain : every printable t ≡ true
 
 pub record Filled (q : Marks) (most : ℕ) (t : Text) : Type 0 where

@@ -7,6 +7,7 @@ use lib.ListN.{drop, replicate}
 use Rattle.text.specs.Bytes.{Text, bytes}
 use Rattle.text.specs.Marks.{marksOf}
 use Rattle.text.specs.declared.marks.Marks.{Marks}
+use Rattle.escape.specs.Length.{Fits}
 use Rattle.reader.specs.declared.standing.Standing.{Standing}
 use Rattle.reader.specs.declared.standing.Standing.the-variants.{Segment}
 use Rattle.frame.specs.Frame.{framed}
@@ -20,7 +21,7 @@ use Rattle.reader.specs.Place.{place, leafAt, textAt}
 use Rattle.reader.proofs.Copied.{copied-text}
 use Rattle.slot.specs.Fields.{longestControl, longestText}
 use Rattle.slot.specs.Slot.{slotSize, slipOf}
-use Rattle.slot.specs.Inner.{Takes, Fillable, valuesOf}
+use Rattle.slot.specs.Inner.{Fillable, valuesOf}
 use Rattle.reader.specs.Observations.{observations, observationsOf}
 use Rattle.slip.specs.Slip.{slipText}
 use Rattle.slip.specs.Inner.{IsOrder}
@@ -29,8 +30,8 @@ use Rattle.slip.proofs.Accepted.{accepted-fitting}
 use Rattle.slip.proofs.Groups.{group-count}
 
 -- a text that an accepted message has for a slip fits
-taken-fits : (q q' : Marks) (t t' : Text) (most : ℕ) → q ≡ q' → t ≡ t' → most ≤ longestText → Taken q' most t' → Takes q t
-taken-fits q q' t t' most e k l f = rw (e, k) (record { good = f .good; short = omega (arith, f .short) })
+taken-fits : (q q' : Marks) (t t' : Text) (most : ℕ) → q ≡ q' → t ≡ t' → most ≤ longestText → Taken q' most t' → Fits q longestText t
+taken-fits q q' t t' most e k l f = rw (e, k) (record { good = f .fits .good; short = omega (arith, f .fits .short) })
 
 -- what is read for a slip
 pub record IsRead (m : Text) (a e : ℕ) (header patient : Standing) (q : Marks) (control identity placer filler service : Text) : Type 0 where

@@ -1,28 +1,23 @@
 -- A slip's fields, written one after another into a slot of zeros.
-use mathlib.Core.Path.{_≡_, refl, ap, subst, _∙_}
-use Prim.Native.Nat.{ℕ, suc, _+_, _*_, _-_, _/_, _%_, _≤_, _<_}
+use mathlib.Core.Path.{_≡_, refl, ap, _∙_}
+use Prim.Native.Nat.{ℕ, suc, _+_, _*_, _-_, _/_, _%_, _≤_}
 use native.Mathlib.Omega.{arith}
 use mathlib.Core.Bool.{Bool, true, false}
 use mathlib.Core.List.{[], _∷_, _++_, flatMap, append-assoc, append-nil}
 use lib.ListN.{length, set, replicate, length-replicate}
 use Rattle.text.specs.Bytes.{Text, pick, empty}
 use Rattle.escape.specs.Escape.{resolved}
+use Rattle.escape.specs.Length.{Fits}
 use Rattle.text.specs.Puts.{Puts}
 use Rattle.text.specs.declared.marks.Marks.{Marks}
 use Rattle.text.proofs.Tests.{empty-none, empty-some}
 use Rattle.text.proofs.Lists.{drop-replicate}
-use Rattle.text.proofs.Puts.{puts-length, puts-none, puts-one, puts-both, puts-front}
-use Rattle.escape.proofs.Escapes.{resolved-length}
+use Rattle.text.proofs.Puts.{puts-length, puts-none, puts-one, puts-more, puts-before, puts-both, puts-front}
+use Rattle.escape.proofs.Escapes.{resolved-length, written-length}
 use Rattle.tags.specs.Fields.{countTag, longestText, headSize, countSize}
 use Rattle.tags.specs.Inner.{longestField}
 use Rattle.slot.specs.Slot.{tagged, twoBytes, tagBytes, slotSize, slipOf}
-use Rattle.slot.specs.Inner.{Takes, valuesOf}
-
--- one byte after a text
-puts-more : {before : Text} {at : ℕ} {t mid : Text} {k : ℕ} (j x : ℕ) → k ≡ j → j < length before → Puts before at t mid k
-    → Puts before at (t ++ x ∷ []) (set mid j x) (j + 1)
-puts-more {before} {at} {t} {mid} j x e h p =
-    puts-both (subst (λ (n : ℕ). Puts before at t mid n) e p) (puts-one mid j x (omega (arith, puts-length p)))
+use Rattle.slot.specs.Inner.{valuesOf}
 
 -- the tag and a length below 256
 puts-heading : (slip : Text) (at k n : ℕ) → at + 3 ≤ length slip
@@ -55,27 +50,26 @@ small-high n h = omega arith
 small-low : (n : ℕ) → n ≤ longestText → n % 256 ≡ n
 small-low n h = omega arith
 
--- a text's field: left out, or its tag, its length and its bytes
-module _ (q : Marks) (t : Text) (f : Takes q t) (n : ℕ) (e : n ≡ length (resolved q t)) where
-  pub text-small : n ≤ longestText
-  text-small = omega (arith, resolved-length q t, f .short)
+-- a text's field: left out, or its tag, its length and its bytes; there is room for it
+module _ (q : Marks) (t : Text) (f : Fits q longestText t) (slip : Text) (at k : ℕ) (room : at + length (tagBytes (tagged k (resolved q t))) ≤ length slip) where
+  pub puts-empty : length t ≡ 0 → Puts slip at (tagBytes (tagged k (resolved q t))) slip at
+  puts-empty z = rw (field-none k (resolved q t) (omega (arith, resolved-length q t))) (puts-none slip at (omega arith))
 
-  module _ (slip : Text) (at k : ℕ) (room : at + length (tagBytes (tagged k (resolved q t))) ≤ length slip) where
-    pub puts-empty : n ≡ 0 → Puts slip at (tagBytes (tagged k (resolved q t))) slip at
-    puts-empty z = rw (field-none k (resolved q t) (omega arith)) (puts-none slip at (omega arith))
+  module _ (some : length t ≡ 0 → ⊥) where
+    told : tagBytes (tagged k (resolved q t)) ≡ k ∷ (twoBytes (length (resolved q t)) ++ resolved q t)
+    told = field-some k (resolved q t) (λ z. some (omega (arith, z, written-length q t)))
 
-    module _ (some : n ≡ 0 → ⊥) where
-      told : tagBytes (tagged k (resolved q t)) ≡ k ∷ (twoBytes (length (resolved q t)) ++ resolved q t)
-      told = field-some k (resolved q t) (λ z. some (e ∙ z))
+    pub text-room : at + headSize + length (resolved q t) ≤ length slip
+    text-room = let r = rw told at room in omega arith
 
-      pub text-room : at + 3 + n ≤ length slip
-      text-room = let r = rw told at room in omega arith
-
-      pub puts-text : (after : Text) (r : ℕ) → Puts (set (set (set slip at k) (at + 1) 0) (at + 2) n) (at + 3) (resolved q t) after r
-          → Puts slip at (tagBytes (tagged k (resolved q t))) after r
-      puts-text after r p =
-          let w = text-room in
-          rw (told, ← e, small-high n text-small, small-low n text-small) (puts-both (puts-heading slip at k n (omega arith)) p)
+    pub puts-text : {mid : Text} {r : ℕ} → Puts slip (at + headSize) (resolved q t) mid r
+        → Puts slip at (tagBytes (tagged k (resolved q t))) (set (set (set mid (at + 2) (r - (at + headSize))) (at + 1) 0) at k) r
+    puts-text {mid} {r} p =
+        let n = length (resolved q t) in
+        let e : r - (at + headSize) ≡ n = omega (arith, p .ends) in
+        let a : at + headSize ≡ at + 2 + 1 = omega arith in
+        let b : at + 2 ≡ at + 1 + 1 = omega arith in
+        rw (told, e, small-high n (f .short), small-low n (f .short)) (puts-before at k refl (puts-before (at + 1) 0 b (puts-before (at + 2) n a p)))
 
 -- the count's field
 pub puts-count : (slip : Text) (at n : ℕ) → at + countSize ≤ length slip
@@ -103,12 +97,12 @@ module _ {n : ℕ} {t slip : Text} {at : ℕ} (b : Begun n t slip at) where
   slot-length : length slip ≡ slotSize
   slot-length = puts-length (b .puts) ∙ length-replicate {A = ℕ} slotSize 0
 
-  module _ (k : ℕ) (q : Marks) (u : Text) (f : Takes q u) where
+  module _ (k : ℕ) (q : Marks) (u : Text) (f : Fits q longestText u) where
     abbrev bytes : Text
     bytes = tagBytes (tagged k (resolved q u))
 
     short-field : length bytes ≤ longestField
-    short-field = omega (arith, field-length k (resolved q u), resolved-length q u, f .short)
+    short-field = omega (arith, field-length k (resolved q u), f .short)
 
     pub begun-room : n ≤ 4 → at + length bytes ≤ length slip
     begun-room h = omega (arith, slot-length, short-field, b .short)

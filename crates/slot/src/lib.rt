@@ -4,12 +4,12 @@ ghost use mathlib.Core.Bool.{false};
 ghost use Prim.Native.Nat.{_+_, _≤_};
 ghost use lib.ListN.{length};
 ghost use Rattle.escape.specs.Escape.{resolved};
-ghost use Rattle.tags.specs.Fields.{countSize, countTag};
+ghost use Rattle.escape.specs.Length.{Fits};
+ghost use Rattle.tags.specs.Fields.{countSize, countTag, longestText};
 ghost use Rattle.text.specs.Puts.{Puts};
 ghost use Rattle.slot.specs.Slot.{twoBytes, tagged, tagBytes, slotSize, slotStart, slipOf, noSlot};
-ghost use Rattle.slot.specs.Inner.{Takes, Fillable, valuesOf};
+ghost use Rattle.slot.specs.Inner.{Fillable, valuesOf};
 use escape::put_resolved;
-use escape::resolved_len;
 use tags::COUNT_TAG;
 use tags::HEAD_SIZE;
 use text::Marks;
@@ -17,19 +17,20 @@ use text::Marks;
 // Bytes of a slot.
 pub const SLOT_SIZE: usize = 1024;
 
-// A field: its tag, its length and its resolved text; an Empty one is left out.
+// A field: its tag, its length and its resolved text; an Empty one is left out. The text is put first; then its length is known.
 fn put_text(slip: &mut [u8], at: usize, tag: u8, q: Marks, t: &[u8]) -> usize
-    requires { ⌜ Takes q (now t) × (at + length (tagBytes (tagged tag (resolved q (now t)))) ≤ length (now slip)) ⌝ }
+    requires { ⌜ Fits q longestText (now t) × (at + length (tagBytes (tagged tag (resolved q (now t)))) ≤ length (now slip)) ⌝ }
     ensures { λ r. ⌜ Puts (now (slip .entry)) at (tagBytes (tagged tag (resolved q (now (t .entry))))) (now (slip .exit)) r ⌝ }
 {
-    let n = resolved_len(q, t);
-    if n == 0 {
+    if t.len() == 0 {
         return at;
     }
-    slip[at] = tag;
+    let start = at + HEAD_SIZE;
+    let end = put_resolved(slip, start, q, t);
+    slip[at + 2] = (end - start) as u8;
     slip[at + 1] = 0;
-    slip[at + 2] = n as u8;
-    put_resolved(slip, at + HEAD_SIZE, q, t)
+    slip[at] = tag;
+    end
 }
 
 // The last field: the group's OBX count in two bytes.

@@ -1,12 +1,12 @@
 -- Laws of texts written into a buffer.
-use mathlib.Core.Path.{_≡_, refl, sym, ap, _∙_}
+use mathlib.Core.Path.{_≡_, refl, sym, ap, subst, _∙_}
 use Prim.Native.Nat.{ℕ, suc, _+_, _≤_, _<_}
 use native.Mathlib.Numerals.{add-one}
 use native.Mathlib.Nat.{add-zero, zero-add, add-assoc}
 use native.Mathlib.Omega.{arith}
 use mathlib.Core.List.{[], _∷_, _++_, append-assoc, append-nil}
 use lib.ListN.{length, take, drop, set, length-append, length-drop, take-append-drop, getD}
-use lib.Seq.{length-take-le, take-at, drop-append-add, drop-drop, set-split, append-snoc, take-suc}
+use lib.Seq.{length-take-le, take-at, take-append-le, take-take, drop-at, drop-append-add, drop-drop, set-split, append-snoc, take-suc}
 use Rattle.text.specs.Bytes.{Text}
 use Rattle.text.specs.Puts.{Puts}
 
@@ -57,6 +57,31 @@ puts-both {before} {at} {a} {mid} {k} {b} {after} {r} p q =
           q .holds
           ∙ rw (puts-head p, puts-rest p (length b), append-assoc (take at before) a b, l, add-assoc);
       ends = omega (arith, l, p .ends, q .ends);
+    }
+
+-- one byte after a text
+pub puts-more : {before : Text} {at : ℕ} {t mid : Text} {k : ℕ} (j x : ℕ) → k ≡ j → j < length before → Puts before at t mid k
+    → Puts before at (t ++ x ∷ []) (set mid j x) (j + 1)
+puts-more {before} {at} {t} {mid} j x e h p =
+    puts-both (subst (λ (n : ℕ). Puts before at t mid n) e p) (puts-one mid j x (omega (arith, puts-length p)))
+
+-- one byte before a text
+pub puts-before : {before : Text} {k : ℕ} {t mid : Text} {r : ℕ} (j x : ℕ) → k ≡ j + 1 → Puts before k t mid r → Puts before j (x ∷ t) (set mid j x) r
+puts-before {before} {k} {t} {mid} {r} j x e p =
+    let n : k ≡ suc j = omega arith in
+    let front = take k before in
+    let rest = t ++ drop (k + length t) before in
+    let long = length-take-le k before (omega (arith, p .room)) in
+    let held : mid ≡ front ++ rest = p .holds ∙ append-assoc front t (drop (k + length t) before) in
+    let head : take j mid ≡ take j before = ap (take j) held ∙ (take-append-le j front rest (omega (arith, long)) ∙ take-take j k before (omega arith)) in
+    let tail : drop (suc j) mid ≡ rest = ap (drop (suc j)) held ∙ drop-at front rest (suc j) (long ∙ n) in
+    let more : k + length t ≡ j + suc (length t) = omega arith in
+    record {
+      room = omega (arith, p .room);
+      holds =
+          set-split mid j x (omega (arith, puts-length p, p .room))
+          ∙ (rw (head, tail, more) (sym (append-assoc (take j before) (x ∷ t) (drop (j + suc (length t)) before))));
+      ends = omega (arith, p .ends);
     }
 
 -- one byte more of a text

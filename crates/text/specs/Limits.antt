@@ -1,14 +1,8 @@
 -- An entry's promise is made of this.
--- Limits of lengths, and ranges of numbers.
+-- Ranges of numbers.
 use Prim.Native.Nat.{ℕ}
 use mathlib.Core.Bool.{Bool, _&&_}
-use lib.ListN.{length}
-use lib.Dec.{leb, ltb}
-use Rattle.text.specs.Bytes.{Text}
-
--- a limit counts written bytes
-abbrev pub tooLong : ℕ → Text → Bool
-tooLong limit t = ltb limit (length t)
+use lib.Dec.{leb}
 
 pub record Range : Type 0 where
   pub low : ℕ

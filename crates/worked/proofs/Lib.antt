@@ -2,3 +2,4 @@ pub mod Computing
 pub mod Examples
 pub mod Worked
 pub mod Hard
+pub mod Lengths

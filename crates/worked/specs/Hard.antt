@@ -3,9 +3,9 @@
 use Prim.Native.Nat.{ℕ, _^_}
 use Prim.Native.String as string
 use mathlib.Core.Bool.{Bool, true, false}
-use mathlib.Core.List.{List, [], _∷_, _++_}
+use mathlib.Core.List.{List, [], _∷_, _++_, flatMap}
 use lib.ListN.{take, drop, replicate}
-use Rattle.text.specs.Bytes.{Text, bytes, cr}
+use Rattle.text.specs.Bytes.{Text, bytes, byte, cr}
 use Rattle.text.specs.Answer.{given, bufferAfter}
 use Rattle.text.specs.Decimal.{decimal}
 use Rattle.text.specs.Marks.{usual}
@@ -27,15 +27,19 @@ abbrev yesNo : Bool → Text
 yesNo true = bytes "yes"
 yesNo false = bytes "no"
 
-abbrev letters : ℕ → Text
+abbrev pub letters : ℕ → Text
 letters n = replicate n 65
+
+-- so many ampersands, as they are written
+abbrev pub ampersands : ℕ → Text
+ampersands n = flatMap (λ (k : ℕ). bytes "\\T\\") (replicate n 0)
 
 -- looking up in M
 abbrev look : string.String → ℕ → ℕ → ℕ → ℕ → ℕ → Text
 look n o f r c b = lookLine (lookUp M (place (bytes n) o f r c b))
 
 -- an OBX of a type and a value
-abbrev valued : Text → Text → Text
+abbrev pub valued : Text → Text → Text
 valued type value =
     message (msh ∷ pid ∷ obr ∷ [])
     ++ bytes "OBX|1|" ++ type ++ bytes "|45222-7^C4-DC^LN||" ++ value ++ bytes "|umol/L|||||F" ++ (cr ∷ [])
@@ -285,21 +289,21 @@ replies =
     ∷ (outcome (reply profile01 M (bytes "20240305101501") (letters 20) 96) says bytes "refused 14")
     ∷ []
 
--- M with the longest values, OBR-2 written with an escape
+-- M with the longest values: of escapes alone, of letters and an escape, of letters
 abbrev longest : Text
 longest =
-    bytes "MSH|^~\\&|LABSYS|LAB1|DEPOT|D1|20240305101500||ORU^R01^ORU_R01|" ++ letters 20 ++ bytes "|P|2.5.1" ++ (cr ∷ [])
-    ++ bytes "PID|1||" ++ letters 199 ++ bytes "||LANE^JANE||20240301" ++ (cr ∷ [])
-    ++ bytes "OBR|1|" ++ letters 196 ++ bytes "\\T\\|" ++ letters 199 ++ bytes "|" ++ letters 199 ++ bytes "|||20240304" ++ (cr ∷ [])
+    bytes "MSH|^~\\&|LABSYS|LAB1|DEPOT|D1|20240305101500||ORU^R01^ORU_R01|" ++ ampersands 20 ++ bytes "|P|2.5.1" ++ (cr ∷ [])
+    ++ bytes "PID|1||" ++ ampersands 199 ++ bytes "||LANE^JANE||20240301" ++ (cr ∷ [])
+    ++ bytes "OBR|1|" ++ letters 198 ++ ampersands 1 ++ bytes "|" ++ letters 199 ++ bytes "|" ++ letters 199 ++ bytes "|||20240304" ++ (cr ∷ [])
 
 abbrev longestSlip : Text
 longestSlip =
-    (1 ∷ 0 ∷ 20 ∷ letters 20)
-    ++ (2 ∷ 0 ∷ 199 ∷ letters 199)
-    ++ (3 ∷ 0 ∷ 197 ∷ (letters 196 ++ bytes "&"))
+    (1 ∷ 0 ∷ 20 ∷ replicate 20 (byte "&"))
+    ++ (2 ∷ 0 ∷ 199 ∷ replicate 199 (byte "&"))
+    ++ (3 ∷ 0 ∷ 199 ∷ (letters 198 ++ bytes "&"))
     ++ (4 ∷ 0 ∷ 199 ∷ letters 199)
     ++ (5 ∷ 0 ∷ 199 ∷ letters 199)
-    ++ (6 ∷ 0 ∷ 2 ∷ 0 ∷ 0 ∷ replicate 190 0)
+    ++ (6 ∷ 0 ∷ 2 ∷ 0 ∷ 0 ∷ replicate 188 0)
 
 unfoldable pub slips : List Example
 slips =

@@ -1,5 +1,6 @@
 -- A demand is said with these.
 pub mod Messages
 pub mod Worked
--- No entry's promise is made of this: it tries the definitions.
+-- No entry's promise is made of these: they try the definitions.
 pub mod Hard
+pub mod Lengths

@@ -11,7 +11,7 @@ use Rattle.profile.specs.Profile.{profile01}
 use Rattle.reader.specs.Fault.{judge}
 use Rattle.text.specs.Decimal.{decimal}
 use Rattle.line.specs.Line.{deskLine, refusedLine}
-use Rattle.reply.specs.Reply.{reply}
+use Rattle.reply.specs.Reply.{reply, longestReply}
 use Rattle.slip.specs.Book.{file}
 use Rattle.book.specs.Read.{Part}
 
@@ -63,7 +63,7 @@ outcome (refused r) = refusedLine r
 outcome (given t) = t
 
 abbrev pub replyTo : Text → Text
-replyTo m = outcome (reply profile01 m (bytes "20240305101501") (bytes "K1") 1200)
+replyTo m = outcome (reply profile01 m (bytes "20240305101501") (bytes "K1") longestReply)
 
 -- group g in slot 0 of an empty book of one slot
 abbrev pub slipFiled : Text → ℕ → Text

@@ -2,6 +2,7 @@
 #![allow(dead_code)]
 
 use second::calls;
+use second::reply::MOST_BYTES;
 
 pub const MSH: &str = r"MSH|^~\&|LABSYS|LAB1|DEPOT|D1|20240305101500||ORU^R01^ORU_R01|C7|P|2.5.1";
 pub const PID: &str = "PID|1||A55||LANE^JANE||20240301";
@@ -54,6 +55,31 @@ pub fn m_with_obx(obx: &str) -> Vec<u8> {
     message(&[MSH, PID, OBR, obx])
 }
 
+/// A message whose reply is as long as any: all that is copied is at its
+/// limit and made of escapes, and the fault is the one with the longest ERR.
+pub fn longest_reply_message() -> Vec<u8> {
+    let escapes = |count: usize| r"\T\".repeat(count);
+    let hd = format!("{}^{}^{}", escapes(20), escapes(199), escapes(20));
+    let mut header = MSH.to_string();
+    for field in 3..=6 {
+        header = set(&header, field, &hd);
+    }
+    header = set(&set(&header, 10, &escapes(20)), 11, "X");
+    message(&[&header, PID, OBR, OBX])
+}
+
+/// Whether a text has a `\` that begins none of the five escapes. Kept apart
+/// from the program, so that its answers can be compared with this one.
+pub fn has_bad_escape(text: &str) -> bool {
+    match text.find('\\') {
+        None => false,
+        Some(at) => match text[at..].get(..3) {
+            Some(r"\F\" | r"\S\" | r"\T\" | r"\R\" | r"\E\") => has_bad_escape(&text[at + 3..]),
+            _ => true,
+        },
+    }
+}
+
 /// The desk line.
 pub fn line(message: &[u8]) -> String {
     let mut out = Vec::new();
@@ -70,7 +96,7 @@ pub fn answer(call: &str) -> String {
 
 /// The reply to a message, as text with line feeds for CR.
 pub fn reply(message: &[u8]) -> Result<String, u8> {
-    let mut buffer = [0; 1_200];
+    let mut buffer = [0; MOST_BYTES];
     let length = second::reply(message, b"20240305101501", b"K1", &mut buffer);
     let length = length.map_err(|refusal| refusal.number())?;
     let text = String::from_utf8(buffer[..length].to_vec()).unwrap();

@@ -33,6 +33,9 @@ pub struct Bundle {
 /// Bytes that mean something in a call's spelling, or stand for none.
 const MISSPELLINGS: &[u8] = b"%*;= 0123456789AFaf\r\t\x7Fx";
 
+/// A header with more bytes has long names in it.
+const LONG_HEADER: usize = 300;
+
 pub struct Generator {
     random: Random,
     books: Vec<Vec<u8>>,
@@ -258,17 +261,20 @@ impl Generator {
         others
     }
 
-    /// Half of the messages are judged only, as judging has the most rules.
+    /// Half of the messages are judged only, as judging has the most rules. One with a long header is replied to, as
+    /// replies copy from there.
     pub fn bundle(&mut self) -> Bundle {
         let message = self.message();
         let mut asks = vec![Ask { entry: "judge", rest: Vec::new(), paired: true }];
-        if self.random.one_in(2) {
+        let long = message.iter().position(|byte| *byte == b'\r').map_or(false, |length| length > LONG_HEADER);
+        if !long && self.random.one_in(2) {
             return Bundle { message, asks, others: Vec::new() };
         }
-        for _ in 0..self.random.pick(&[1, 1, 2, 3]) {
+        let looks = if long { 1 } else { self.random.pick(&[1, 1, 2, 3]) };
+        for _ in 0..looks {
             asks.push(self.look(&message));
         }
-        if self.random.percent(75) {
+        if long || self.random.percent(75) {
             asks.push(self.reply(&message));
         }
         if self.random.percent(75) {

@@ -4,9 +4,9 @@ use crate::damage::Damage;
 use crate::dates;
 use crate::draft::{Draft, Segment};
 use crate::newer::{anything, listed_segment};
-use crate::profile::{leaves, limit, list, type_limit, Field, Leaf, Simple, DATED, TYPES};
+use crate::profile::{fields_of, leaves, limit, list, type_limit, Field, Leaf, Simple, DATED, TYPES};
 use crate::random::Random;
-use crate::values::{at_limit, near, near_code, of, text, NEAR_ESCAPES};
+use crate::values::{at_limit, near, near_code, of, resolving, spoilt, NEAR_ESCAPES};
 
 /// A listed leaf somewhere in a draft.
 struct Spot {
@@ -45,6 +45,14 @@ fn length(random: &mut Random, draft: &mut Draft) {
     }
 }
 
+/// A bad escape in a text about as long as its limit, or too long.
+fn long_escape(random: &mut Random, draft: &mut Draft) {
+    if let Some(spot) = spot(random, draft) {
+        let value = spoilt(random, limit(&spot.field, spot.leaf.simple));
+        set(draft, &spot, &value);
+    }
+}
+
 /// A leaf that has a form, if one is met soon.
 fn type_edge(random: &mut Random, draft: &mut Draft) {
     for _ in 0..6 {
@@ -71,6 +79,24 @@ fn value_edge(random: &mut Random, draft: &mut Draft) {
     }
 }
 
+/// The limits that only an observation has: of three fields their own, and those of the types that OBX-5 alone can have.
+fn observed_length(random: &mut Random, draft: &mut Draft) {
+    let observations = draft.named(b"OBX");
+    if !observations.is_empty() {
+        let segment = &mut draft.segments[random.pick(&observations)];
+        let number = random.pick(&[2, 4, 5, 5, 7]);
+        let field = fields_of(b"OBX").iter().find(|field| field.number == number).expect("a listed field");
+        let kind = if field.kind == "*" { random.pick(&["NM", "TM", "TM", "TX"]) } else { field.kind };
+        let most = limit(field, leaves(kind)[0].simple);
+        let length = most + random.below(3) - 1;
+        let value = if random.one_in(4) { spoilt(random, most) } else { resolving(random, length) };
+        if field.kind == "*" {
+            *segment.field(2) = kind.as_bytes().to_vec();
+        }
+        *segment.field(field.number) = value;
+    }
+}
+
 /// A day about an end of its month, in any field that has a date; OBX-5 is made one. Not every draft has an OBX, so its
 /// fields are tried oftener.
 fn day(random: &mut Random, draft: &mut Draft) {
@@ -88,7 +114,7 @@ fn day(random: &mut Random, draft: &mut Draft) {
     }
 }
 
-/// An escape or half of one, alone or inside another text; now and then in a value that is too long as well.
+/// An escape or half of one, alone or inside another text.
 fn escape(random: &mut Random, draft: &mut Draft) {
     if let Some(spot) = spot(random, draft) {
         let mut value = random.pick(NEAR_ESCAPES).as_bytes().to_vec();
@@ -125,13 +151,15 @@ fn header_code(random: &mut Random, draft: &mut Draft) {
 
 fn control_number(random: &mut Random, draft: &mut Draft) {
     let length = random.pick(&[19, 20, 21, 1]);
-    let long = text(random, length);
+    let long = resolving(random, length);
+    let bad = spoilt(random, 20);
     let near = random.pick(NEAR_ESCAPES).as_bytes().to_vec();
     let other =
         random.pick(&["", "^X", "&X", "C7^X", "C7&X", "~C7", "C7~C8", "^", "~", " ", "C7~"]).as_bytes().to_vec();
-    *draft.segments[0].field(10) = match random.below(3) {
-        0 => long,
-        1 => near,
+    *draft.segments[0].field(10) = match random.below(6) {
+        0..=2 => long,
+        3 => bad,
+        4 => near,
         _ => other,
     };
 }
@@ -142,25 +170,54 @@ fn sender(random: &mut Random, draft: &mut Draft) {
     let near = random.pick(NEAR_ESCAPES).as_bytes().to_vec();
     let component = random.between(1, 3);
     let leaf = leaves("HD")[component - 1];
-    match random.below(5) {
+    match random.below(8) {
         0 => draft.segments[0].put(number, [1, component, 1], &near),
-        1 => {
+        1..=3 => {
             let value = at_limit(random, leaf.simple, type_limit(leaf.simple));
             draft.segments[0].put(number, [1, component, 1], &value);
         }
-        2 => draft.segments[0].put(number, [2, component, 1], b"X"),
-        3 => draft.segments[0].put(number, [1, component, 2], b"X"),
+        4 => {
+            let value = spoilt(random, type_limit(leaf.simple));
+            draft.segments[0].put(number, [1, component, 1], &value);
+        }
+        5 => draft.segments[0].put(number, [2, component, 1], b"X"),
+        6 => draft.segments[0].put(number, [1, component, 2], b"X"),
         _ => *draft.segments[0].field(number) = random.pick(&["^^X", "^X", "X^^Y", "^^", "~X", ""]).as_bytes().to_vec(),
     }
 }
 
-/// The leaves that a slip holds, with escapes and at their limit.
+/// All that a reply copies at or about its limit, and much of it escapes, so that the reply is long; now and then a leaf
+/// that it leaves out.
+fn long_header(random: &mut Random, draft: &mut Draft) {
+    for number in 3..=6 {
+        for leaf in leaves("HD") {
+            if random.percent(70) {
+                let most = type_limit(leaf.simple);
+                let value = match random.below(30) {
+                    0 => resolving(random, most + 1),
+                    1 => spoilt(random, most),
+                    _ => resolving(random, most),
+                };
+                draft.segments[0].put(number, [1, leaf.component, 1], &value);
+            }
+        }
+    }
+    if random.one_in(2) {
+        *draft.segments[0].field(10) = resolving(random, 20);
+    }
+}
+
+/// The leaves that a slip holds, with escapes and at their limit: one of them, or all.
 fn filed(random: &mut Random, draft: &mut Draft) {
-    let (name, number) = random.pick(&[("PID", 3), ("OBR", 2), ("OBR", 3), ("OBR", 4)]);
-    let length = random.pick(&[1, 3, 197, 198, 199]);
-    let value = text(random, length);
-    for at in draft.named(name.as_bytes()) {
-        draft.segments[at].put(number, [1, 1, 1], &value);
+    static FILED: &[(&str, usize)] = &[("PID", 3), ("OBR", 2), ("OBR", 3), ("OBR", 4)];
+    let one = random.below(FILED.len());
+    let kept = if random.one_in(3) { FILED } else { &FILED[one..=one] };
+    for (name, number) in kept {
+        let length = random.pick(&[1, 3, 197, 198, 199, 199, 199, 200]);
+        let value = resolving(random, length);
+        for at in draft.named(name.as_bytes()) {
+            draft.segments[at].put(*number, [1, 1, 1], &value);
+        }
     }
 }
 
@@ -285,16 +342,19 @@ fn shifted_fields(random: &mut Random, draft: &mut Draft) {
 }
 
 pub static DAMAGES: &[Damage<Draft>] = &[
-    ("length at a limit", 22, length),
+    ("length at a limit", 44, length),
+    ("bad escape in a long text", 20, long_escape),
+    ("length in an observation", 24, observed_length),
     ("edge of a type", 16, type_edge),
     ("value at an edge of its type", 20, value_edge),
-    ("day about the end of its month", 64, day),
+    ("day about the end of its month", 96, day),
     ("escape", 10, escape),
     ("code near a list", 16, code),
     ("code of the header", 34, header_code),
-    ("control number", 36, control_number),
-    ("sender and receiver", 5, sender),
-    ("leaves of a slip", 3, filed),
+    ("control number", 60, control_number),
+    ("sender and receiver", 30, sender),
+    ("long header", 30, long_header),
+    ("leaves of a slip", 8, filed),
     ("emptied leaf", 7, emptied_leaf),
     ("emptied field", 5, emptied_field),
     ("only separators", 6, only_separators),

@@ -4,8 +4,8 @@
 //!
 //! - `corpus` prints the calls that are stored beside those written by hand: some are about the sample messages of a
 //!   folder, some are random.
-//! - `table` counts the answers to stored calls. It ends with status 1 where a refusal or a reason is met too seldom, or
-//!   a day that there is not in one of the fields with a date or in a stamp.
+//! - `table` counts the answers to stored calls. It ends with status 1 where a refusal or a reason is met too seldom, a
+//!   day that there is not in one of the fields with a date or in a stamp, or a case of the rule of lengths.
 //! - `calls` prints random calls.
 //! - `fuzz` hands random calls to another program and compares its answers with the second program's. It ends when the
 //!   time is over, or with status 1 at the first difference, which it saves in a folder.
@@ -19,6 +19,7 @@
 //! - `profile`: its profile: listed fields and leaves with their types, limits and lists
 //! - `random`: random numbers from a seed
 //! - `dates`: dates about the ends of months and about leap years
+//! - `resolved`: how long a text is once its escapes are resolved
 //! - `spelling`: the words of calls and answers, and the second program's answer to a call
 //!
 //! Values and messages:
@@ -47,10 +48,12 @@
 //! - `corpus`: calls gathered line by line
 //! - `edges`: every edge once, on short messages
 //! - `days`: the same of the rule that a month must have its day
+//! - `lengths`: the same of the rule that lengths are counted after resolving
 //! - `stored`: all that are stored
 //!
 //! Answers compared and counted:
 //! - `lines`: lines as programs read and print them
+//! - `cases`: which cases of the rule of lengths a call meets
 //! - `table`: how often each entry gave each answer
 //! - `round`: calls for the other program, the answers it must give, and the pairs that must agree
 //! - `child`: the other program, run on a round
@@ -60,6 +63,7 @@
 
 #![forbid(unsafe_code)]
 
+mod cases;
 mod child;
 mod corpus;
 mod damage;
@@ -72,6 +76,7 @@ mod fuzz;
 mod generator;
 mod large;
 mod leaves;
+mod lengths;
 mod lent;
 mod lines;
 mod newer;
@@ -80,6 +85,7 @@ mod order;
 mod places;
 mod profile;
 mod random;
+mod resolved;
 mod round;
 mod short;
 mod slips;

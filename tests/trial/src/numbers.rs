@@ -1,4 +1,4 @@
-//! Document 01's numbers outside the profile, with those of its amendment. Written from their words alone, apart from
+//! Document 01's numbers outside the profile, with those of its amendments. Written from their words alone, apart from
 //! both programs compared.
 
 /// The longest message.
@@ -15,5 +15,5 @@ pub const NO_SUCH_DAY: usize = 13;
 pub const BAD_STAMP: usize = 11;
 
 /// The longest reply.
-pub const MOST_REPLY_BYTES: usize = 1_200;
+pub const MOST_REPLY_BYTES: usize = 3_200;
 pub const SLOT_BYTES: usize = 1_024;

@@ -125,7 +125,7 @@ pub fn leaves(kind: &str) -> &'static [Leaf] {
     KINDS.iter().find(|row| row.0 == kind).map_or(ST, |row| row.1)
 }
 
-/// The longest that a leaf may be, in written bytes.
+/// The longest that a leaf may be once its escapes are resolved.
 pub fn limit(field: &Field, simple: Simple) -> usize {
     match (field.name, field.number, simple) {
         ("MSH", 10, _) | ("OBX", 4, _) => 20,

@@ -1,4 +1,5 @@
-//! The calls that are stored: worked messages, samples, the greatest sizes, the tour, the edges and days, random ones.
+//! The calls that are stored: worked messages, samples, the greatest sizes, the tour, the edges, days and lengths, random
+//! ones.
 
 use std::fs;
 use std::path::PathBuf;
@@ -9,6 +10,7 @@ use crate::draft::names;
 use crate::edges;
 use crate::generator::Generator;
 use crate::large;
+use crate::lengths;
 use crate::lent;
 use crate::numbers::{MOST_BYTES, MOST_REPLY_BYTES, MOST_SEGMENTS, SLOT_BYTES};
 use crate::profile::fields_of;
@@ -193,6 +195,7 @@ pub fn make(samples: &str, seed: u64) -> Result<Corpus, String> {
     add_tour(&mut corpus);
     edges::add(&mut corpus);
     days::add(&mut corpus);
+    lengths::add(&mut corpus);
     add_random(&mut corpus, seed);
     for line in ["judge", "what =x", "look =MSH =PID 1 1"] {
         corpus.lines.push(line.as_bytes().to_vec());

@@ -3,6 +3,7 @@
 use std::collections::BTreeMap;
 use std::fmt;
 
+use crate::cases;
 use crate::dates;
 use crate::numbers::{BAD_STAMP, NO_SUCH_DAY, REASONS, REFUSALS};
 use crate::profile::DATED;
@@ -26,6 +27,8 @@ pub struct Table {
     pub days: BTreeMap<(String, usize), usize>,
     /// Stamps refused for their day alone.
     pub stamps: usize,
+    /// Cases of the rule of lengths, by their titles.
+    pub lengths: BTreeMap<&'static str, usize>,
     pub calls: usize,
 }
 
@@ -68,6 +71,9 @@ impl Table {
             "fault" => self.find(answer, detail),
             _ => (),
         }
+        for title in cases::met(call, answer) {
+            *self.lengths.entry(title).or_insert(0) += 1;
+        }
         self.calls += 1;
         *self.answers[named.unwrap_or(OTHER)].entry((sort, detail)).or_insert(0) += 1;
         true
@@ -94,7 +100,10 @@ impl Table {
         let days = DATED
             .iter()
             .map(|(name, field)| (format!("reason {} in {}-{}", NO_SUCH_DAY, name, field), met(name, *field)));
-        days.chain([(format!("refusal {} for the day alone", BAD_STAMP), self.stamps)]).collect()
+        let stamps = [(format!("refusal {} for the day alone", BAD_STAMP), self.stamps)];
+        let lengths =
+            cases::TITLES.iter().map(|title| (title.to_string(), self.lengths.get(title).copied().unwrap_or(0)));
+        days.chain(stamps).chain(lengths).collect()
     }
 
     /// What is met too seldom.
@@ -130,7 +139,7 @@ impl fmt::Display for Table {
             writeln!(out, "reason  {:>2} {:>9}", number, self.reasons[number])?;
         }
         for (title, count) in self.cases() {
-            writeln!(out, "{:<28} {:>9}", title, count)?;
+            writeln!(out, "{:<37} {:>9}", title, count)?;
         }
         writeln!(out, "calls      {:>9}", self.calls)
     }

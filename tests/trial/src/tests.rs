@@ -5,8 +5,10 @@ use crate::days;
 use crate::draft::Draft;
 use crate::generator::Generator;
 use crate::large;
+use crate::lengths::{self, Spot};
+use crate::lent;
 use crate::numbers::{MOST_BYTES, MOST_SEGMENTS, SLOT_BYTES};
-use crate::profile::{DATED, TYPES};
+use crate::profile::{list, Simple, DATED, TYPES};
 use crate::round::Round;
 use crate::slips;
 use crate::spelling;
@@ -103,6 +105,48 @@ fn where_no_date_stands_no_day_is_asked_for() {
     }
 }
 
+/// What judging answers to a leaf of escapes that is not too long.
+fn answer_to_escapes(spot: &Spot) -> String {
+    let (name, number, component) = (spot.field.name, spot.field.number, spot.leaf.component);
+    let told = match (name, number, component) {
+        _ if matches!(spot.leaf.simple, Simple::Si | Simple::Nm | Simple::Dtm | Simple::Tm) => "102 7",
+        ("MSH", 9, 1) => "200 9",
+        ("MSH", 9, 2) => "201 10",
+        ("MSH", 11, 1) => "202 11",
+        ("MSH", 12, 1) => "203 12",
+        _ if !list(name, number, component).is_empty() => "103 8",
+        _ => return "accepted".to_string(),
+    };
+    fault(spot, told)
+}
+
+fn fault(spot: &Spot, told: &str) -> String {
+    let leaf = spot.leaf;
+    format!("fault {} 1 {} 1 {} {} {}", spot.field.name, spot.field.number, leaf.component, leaf.subcomponent, told)
+}
+
+#[test]
+fn leaves_are_judged_by_their_resolved_length() {
+    let spots = lengths::spots();
+    assert_eq!(spots.len(), 108);
+    for (at, spot) in spots.iter().enumerate() {
+        let good = answer_to_escapes(spot);
+        let (long, bad) = (fault(spot, "102 5"), fault(spot, "102 6"));
+        let expected = [&good, &long, &good, &long, &bad, &bad];
+        for (text, answer) in lengths::about(at, spot.most()).iter().zip(expected) {
+            assert_eq!(judged(&spot.with(text)), *answer, "{}", text);
+        }
+    }
+}
+
+#[test]
+fn the_longest_reply_is_as_long_as_reckoned() {
+    let mut draft = lengths::with_long_header("\\T\\");
+    *draft.segments[0].field(11) = b"X".to_vec();
+    // with a reply number of two bytes instead of twenty
+    assert_eq!(lent::reply_length(&draft.write()), 3_074 - 18);
+}
+
 #[test]
 fn additions_leave_most_messages_accepted() {
     let mut generator = Generator::new(4);
@@ -133,7 +177,7 @@ fn the_tour_starts_from_accepted_messages() {
 #[test]
 fn every_kind_of_damage_is_reached() {
     let mut generator = Generator::new(5);
-    for _ in 0..4_000 {
+    for _ in 0..6_000 {
         generator.message();
     }
     let names = leaves::DAMAGES.iter().chain(order::DAMAGES).map(|row| row.0);
@@ -149,7 +193,7 @@ fn every_kind_of_damage_is_reached() {
 fn every_refusal_and_reason_is_met_often() {
     let mut generator = Generator::new(6);
     let mut table = Table::default();
-    while table.calls < 20_000 {
+    while table.calls < 60_000 {
         for line in generator.bundle().lines() {
             assert!(table.add(&line, &spelling::answer(&line)), "{}", String::from_utf8_lossy(&line));
         }

@@ -16,7 +16,8 @@ fn plain(field: &Field, leaf: &Leaf) -> Vec<u8> {
     }
 }
 
-fn text(field: &Field, kind: &str) -> Vec<u8> {
+/// A field of that type with every listed leaf filled.
+pub fn text(field: &Field, kind: &str) -> Vec<u8> {
     let mut text = Vec::new();
     for leaf in leaves(kind) {
         text = put(&text, WITHIN_FIELD, &[1, leaf.component, leaf.subcomponent], &plain(field, leaf));

@@ -41,6 +41,45 @@ pub fn text(random: &mut Random, length: usize) -> Vec<u8> {
     out
 }
 
+/// Bad escapes, to be put into a text. Some are good ones that overlap, some lack one byte.
+pub static BAD_ESCAPES: &[&str] =
+    &["\\", "\\\\", "\\X\\", "\\f\\", "\\F", "\\E", "\\F\\S\\", "\\T\\T\\", "\\E\\\\", "\\.br\\", "\\T \\"];
+
+/// Text without a separator that has exactly that many bytes once it is resolved: none of them escapes, some, or all.
+/// Long ones have runs of one byte, so that they are short when spelled, and seldom are escapes altogether.
+pub fn resolving(random: &mut Random, length: usize) -> Vec<u8> {
+    let long = length > 60;
+    let share = if length > 300 { random.pick(&[0, 5, 5, 5, 30, 100]) } else { random.pick(&[0, 15, 50, 100, 100]) };
+    let dull = random.pick(LETTERS);
+    let same = random.pick(ESCAPES);
+    let mixed = random.one_in(2);
+    let mut out = Vec::with_capacity(length);
+    let mut left = length;
+    while left > 0 {
+        if random.percent(share) {
+            let escape = if mixed { random.pick(ESCAPES) } else { same };
+            out.extend_from_slice(escape.as_bytes());
+            left -= 1;
+        } else {
+            let run = if long { random.between(1, 40).min(left) } else { 1 };
+            let byte = if long { dull } else { random.pick(LETTERS) };
+            out.resize(out.len() + run, byte);
+            left -= run;
+        }
+    }
+    out
+}
+
+/// Text with a bad escape at the front, at the end or between, that without it is about as long as a limit.
+pub fn spoilt(random: &mut Random, limit: usize) -> Vec<u8> {
+    let length = random.pick(&[limit / 3, limit - 1, limit, limit + 1, limit + 1, 2 * limit]);
+    let mut out = resolving(random, length);
+    let between = random.between(0, out.len());
+    let at = random.pick(&[0, out.len(), between]);
+    out.splice(at..at, random.pick(BAD_ESCAPES).bytes());
+    out
+}
+
 fn number(random: &mut Random) -> Vec<u8> {
     let mut out = Vec::new();
     if random.one_in(4) {
@@ -123,7 +162,11 @@ pub fn good(random: &mut Random, simple: Simple, limit: usize) -> Vec<u8> {
                 2..=4 => random.between(1, limit.min(60)),
                 _ => usual,
             };
-            text(random, length)
+            if length + 1 >= limit || (length > usual && random.one_in(4)) {
+                resolving(random, length)
+            } else {
+                text(random, length)
+            }
         }
     }
 }
@@ -134,27 +177,26 @@ pub const LONGEST_TIME: &[u8] = b"235959.1234-1459";
 /// The same on a day that there is not.
 pub const LONGEST_LACKING: &[u8] = b"20240231235959.1234+1459";
 
-/// A value one below, at, or one above its limit; of its type where a value of such a length can be.
+/// A value one below, at, or one above its limit; of its type where a value of such a length can be. One that has a form
+/// may be any text, for it is told its length first.
 pub fn at_limit(random: &mut Random, simple: Simple, limit: usize) -> Vec<u8> {
     let length = limit + random.below(3) - 1;
+    let any = matches!(simple, Simple::Code | Simple::Short | Simple::Long) || random.one_in(2);
+    if any {
+        return resolving(random, length);
+    }
     let mut whole: Vec<u8> = match simple {
         Simple::Si => of(random, DIGITS, length),
         Simple::Nm if random.one_in(2) => of(random, DIGITS, length),
         Simple::Nm => [b"-".to_vec(), of(random, DIGITS, 5), b".".to_vec(), of(random, DIGITS, length - 7)].concat(),
         Simple::Dtm => LONGEST_MOMENT.to_vec(),
-        Simple::Tm => LONGEST_TIME.to_vec(),
-        _ => text(random, length),
+        _ => LONGEST_TIME.to_vec(),
     };
     if length < whole.len() {
         // one digit of the fraction less
         whole.remove(whole.iter().position(|byte| *byte == b'.').unwrap_or(0) + 1);
     } else if length > whole.len() {
         whole.push(b'0');
-    }
-    if length > 5 && random.one_in(8) && matches!(simple, Simple::Code | Simple::Short | Simple::Long) {
-        let end = random.pick(&["\\T\\", "a\\T", "\\\\\\"]);
-        whole.truncate(length - 3);
-        whole.extend_from_slice(end.as_bytes());
     }
     whole
 }
@@ -242,7 +284,10 @@ pub fn near_code(random: &mut Random, list: &[&str]) -> Vec<u8> {
         7 => [&code[..], random.pick(NEAR_ESCAPES).as_bytes()].concat(),
         8 => random.pick(ESCAPES).as_bytes().to_vec(),
         9..=11 => of(random, CAPITALS_AND_DIGITS, code.len()),
-        12 => text(random, 21),
+        12 => {
+            let length = random.between(20, 21);
+            resolving(random, length)
+        }
         _ => code,
     }
 }
@@ -250,6 +295,7 @@ pub fn near_code(random: &mut Random, list: &[&str]) -> Vec<u8> {
 #[cfg(test)]
 mod tests {
     use super::*;
+    use crate::resolved;
 
     #[test]
     fn texts_have_the_asked_length() {
@@ -260,13 +306,43 @@ mod tests {
     }
 
     #[test]
+    fn texts_have_the_asked_length_once_resolved() {
+        let mut random = Random::new(4);
+        let mut altogether = 0;
+        for length in (0..300).chain([4_095, 4_096, 4_097]) {
+            let made = resolving(&mut random, length);
+            assert_eq!((resolved::length(&made), resolved::has_bad_escape(&made)), (length, false));
+            altogether += usize::from(made.len() == 3 * length);
+        }
+        assert!(altogether > 60, "{}", altogether);
+    }
+
+    #[test]
+    fn spoilt_texts_have_a_bad_escape_and_are_often_too_long() {
+        let mut random = Random::new(5);
+        for limit in [3, 4, 16, 20, 24, 60, 199, 4_096] {
+            let made: Vec<Vec<u8>> = (0..100).map(|_| spoilt(&mut random, limit)).collect();
+            let bad = made.iter().filter(|text| resolved::has_bad_escape(text)).count();
+            let over = made.iter().filter(|text| resolved::length(text) > limit).count();
+            let short = made.iter().filter(|text| text.len() <= limit).count();
+            assert!(bad > 90 && over > 40 && short > 0, "{}: {} {} {}", limit, bad, over, short);
+        }
+    }
+
+    #[test]
     fn limits_are_met_from_both_sides() {
         let mut random = Random::new(2);
         let types = [(Simple::Si, 4), (Simple::Nm, 16), (Simple::Dtm, 24), (Simple::Tm, 16), (Simple::Short, 199)];
         for (simple, limit) in types {
-            let lengths: Vec<usize> = (0..60).map(|_| at_limit(&mut random, simple, limit).len()).collect();
+            let values: Vec<Vec<u8>> = (0..200).map(|_| at_limit(&mut random, simple, limit)).collect();
             for wanted in [limit - 1, limit, limit + 1] {
-                assert!(lengths.contains(&wanted), "{:?} {}", simple, wanted);
+                let met = |escapes: bool| {
+                    values
+                        .iter()
+                        .filter(|value| resolved::length(value) == wanted && value.contains(&b'\\') == escapes)
+                        .count()
+                };
+                assert!(met(false) >= 5 && met(true) >= 5, "{:?} {}", simple, wanted);
             }
         }
     }

@@ -1,4 +1,4 @@
--- `acknowledge`: the four refusals in order, or the reply copied from where it was written.
+-- `acknowledge`: the four refusals in order, or the reply, written at once or copied from where it was written aside.
 use mathlib.Core.Path.{_≡_, sym, _∙_}
 use mathlib.Core.Bool.{true}
 use native.Mathlib.Omega.{arith}
@@ -8,7 +8,7 @@ use Rattle.types.specs.Types.{isStamp, isReplyNumber}
 use Rattle.reader.proofs.Copied.{standing-stood}
 use Rattle.heading.specs.Inner.{Opened}
 use Rattle.reply.proofs.Control.{header-from}
-use Rattle.reply.proofs.Whole.{Fit, acknowledges-stamp, acknowledges-number, acknowledges-control, acknowledges-room, acknowledges-full, acknowledges-given}
+use Rattle.reply.proofs.Whole.{Fit, acknowledges-stamp, acknowledges-number, acknowledges-control, acknowledges-room, acknowledges-put, acknowledges-full, acknowledges-given}
 use borrow.Author.Needs.{needs}
 use Rattle.reply.proofs.acknowledge.Statement.{statement}
 use Rattle.reply.proofs.acknowledge.Tie as tie
@@ -82,28 +82,45 @@ fit c =
       controlled = sym (k .has-no-control .ensures) ∙ c .if3 .left;
     }
 
+-- into a buffer that has room for each reply
 put-reply-requires : tie.Need-put-reply-requires
 put-reply-requires c κs =
-    let e = c .before in
+    let e = c .before .before in
+    let f = e .before .before in
+    let s = sought (f .before .before) in
+    let a = s .args in
+    (opened f, (s .pre, omega (arith, acknowledges-room (a .m .now) (a .stamp .now) (a .number .now) (a .buffer .now) (fit e), c .before .if4 .taken)))
+
+returns-4 : tie.Need-returns-4
+returns-4 c =
+    let p = c .before .before in
+    let e = p .before .before .before in
+    let a = sought (e .before .before .before .before) .args in
+    acknowledges-put (a .m .now) (a .stamp .now) (a .number .now) (a .buffer .now) (fit e) (p .put-reply .ensures)
+
+-- and aside
+put-reply-requires-2 : tie.Need-put-reply-requires-2
+put-reply-requires-2 c κs =
+    let e = c .before .before in
     let f = e .before .before in
     let s = sought (f .before .before) in
     let a = s .args in
     (opened f, (s .pre, acknowledges-room (a .m .now) (a .stamp .now) (a .number .now) (a .buffer .now) (fit e)))
 
-returns-4 : tie.Need-returns-4
-returns-4 c =
-    let p = c .before .before in
-    let e = p .before .before in
-    let a = sought (e .before .before .before .before) .args in
-    acknowledges-full (a .m .now) (a .stamp .now) (a .number .now) (a .buffer .now) (fit e) (p .put-reply .ensures) (c .if4 .taken)
-
 returns-5 : tie.Need-returns-5
 returns-5 c =
+    let p = c .before .before in
+    let e = p .before .before .before in
+    let a = sought (e .before .before .before .before) .args in
+    acknowledges-full (a .m .now) (a .stamp .now) (a .number .now) (a .buffer .now) (fit e) (p .put-reply2 .ensures) (c .if5 .taken)
+
+returns-6 : tie.Need-returns-6
+returns-6 c =
     let w = c .before .before in
     let p = w .before .before .before .before .before .before in
-    let e = p .before .before in
+    let e = p .before .before .before in
     let a = sought (e .before .before .before .before) .args in
-    acknowledges-given (a .m .now) (a .stamp .now) (a .number .now) (a .buffer .now) (fit e) (p .put-reply .ensures) (w .put .ensures)
+    acknowledges-given (a .m .now) (a .stamp .now) (a .number .now) (a .buffer .now) (fit e) (p .put-reply2 .ensures) (w .put .ensures)
 
 pub acknowledge-spec : {M : Type 1} → statement M
 acknowledge-spec =
@@ -118,12 +135,15 @@ acknowledge-spec =
     fields-in-requires-2
     has-no-control-requires
     returns-3
-    (λ c. search needs)
     put-reply-requires
+    (λ c. search needs)
     returns-4
+    (λ c. search needs)
+    put-reply-requires-2
+    returns-5
     (λ c. search needs)
     (λ c. search needs)
     (λ c. search needs)
     (λ c κs. search needs)
     (λ c. search needs)
-    returns-5)
+    returns-6)

@@ -14,7 +14,7 @@ use Rattle.text.specs.Bytes.{within}
 use Rattle.text.proofs.Tests.{not-true, both}
 use Rattle.cursor.proofs.Moving.{cursor-inside}
 use Rattle.leaves.proofs.LeafByLeaf.{Reading, reading-first, reading-number, reading-reason, reading-missing, reading-none}
-use Rattle.fields.proofs.FlatField.{flat-good, flat-on}
+use Rattle.fields.proofs.FlatField.{flat-measured, flat-on}
 use Rattle.fields.proofs.flat.leaves_pass.Statement.{statement}
 use Rattle.fields.proofs.flat.leaves_pass.Tie as tie
 
@@ -112,12 +112,12 @@ loop-again c =
     let l = i .before in
     let o = l .before .before .before .before in
     let x = within (v .advance .result .start) (v .advance .result .end) (o .args .s .now) in
-    let good = flat-good (l .loop .inv) (i .loop-test .taken) (o .pre .1) (n .if2 .left) (v .advance .ensures) in
+    let measured = flat-measured (l .loop .inv) (i .loop-test .taken) (o .pre .1) (n .if2 .left) (v .advance .ensures) in
     ⊎-elim
-    (λ w. flat-on (l .loop .inv) (i .loop-test .taken) (o .pre .1) (n .if2 .left) (v .advance .ensures) (w .1 .ensures (o .args .q) (λ h. good)) (w .2 .left))
+    (λ w. flat-on (l .loop .inv) (i .loop-test .taken) (o .pre .1) (n .if2 .left) (v .advance .ensures) (w .1 .ensures (o .args .q) measured) (w .2 .left))
     (λ w.
     flat-on (l .loop .inv) (i .loop-test .taken) (o .pre .1) (n .if2 .left) (v .advance .ensures) {r = 0}
-    (k .takes-any .ensures (not-false _ (w .left)) (o .args .q) x refl good)
+    (k .takes-any .ensures (not-false _ (w .left)) (o .args .q) x measured)
     refl)
     (c .if3 .came)
 

@@ -15,7 +15,7 @@ use Rattle.cursor.specs.Cursor.{IsPiece}
 use Rattle.cursor.proofs.Moving.{cursor-inside}
 use Rattle.profile.specs.Numbers.{rowSize, componentColumn, subcomponentColumn}
 use Rattle.leaves.proofs.LeafByLeaf.{Reading, nothing, reading-first, reading-reason, reading-none}
-use Rattle.fields.proofs.FlatField.{flat-good, flat-on}
+use Rattle.fields.proofs.FlatField.{flat-measured, flat-on}
 use Rattle.fields.proofs.flat.one_leaf_passes.Statement.{statement}
 use Rattle.fields.proofs.flat.one_leaf_passes.Tie as tie
 
@@ -74,7 +74,7 @@ returns-3 c e =
     let some : ltb 0 (length text) ≡ true = lt-ltb 0 (length text) (omega (arith, c .before .if2 .left)) in
     let last : a .rows .end - (a .rows .start + rowSize) < rowSize = omega (arith, o .pre .1) in
     rw some at (reading-none (flat-on (here f) (more f) (o .pre .0 .1) (columns f .1) (moved f) {r = r}
-    (c .plain-reason .ensures (a .q) (λ h. flat-good (here f) (more f) (o .pre .0 .1) (columns f .1) (moved f))) (eqb-true r 0 e)) last)
+    (c .plain-reason .ensures (a .q) (flat-measured (here f) (more f) (o .pre .0 .1) (columns f .1) (moved f))) (eqb-true r 0 e)) last)
 
 pub one-leaf-passes-spec : {M : Type 1} → statement M
 one-leaf-passes-spec =

@@ -1,6 +1,4 @@
 -- `plain_reason`: the first test that fails is the first broken check.
-use mathlib.Core.Path.{refl, sym}
-use mathlib.Core.Bool.{false}
 use borrow.Author.Needs.{needs}
 use native.Mathlib.Omega.{arith}
 use Prim.Native.Nat.{_+_, _≤_, _<_}
@@ -8,18 +6,18 @@ use lib.ListN.{length}
 use Rattle.profile.specs.Numbers.{limitColumn, begin}
 use Rattle.profile.specs.Codes.{listsBegin}
 use Rattle.codes.proofs.ListNumbers.{lists-inside}
-use Rattle.leaves.proofs.LeafRule.{row-reason, rule-missing, rule-empty, rule-long, plain-good, rule-type, rule-list, rule-good}
+use Rattle.leaves.proofs.LeafRule.{row-reason, rule-missing, rule-empty, rule-long, rule-type, rule-list, rule-good}
 use Rattle.leaves.proofs.rule.plain_reason.Statement.{statement}
 use Rattle.leaves.proofs.rule.plain_reason.Tie as tie
 
 returns : tie.Need-returns
-returns c q good =
+returns c q measured =
     let x = c .before .before in
     let a = x .before .before .before .args in
     rule-missing q (a .table .now) (a .at) (a .s .now) (x .if1 .taken) (c .if2 .taken)
 
 returns-2 : tie.Need-returns-2
-returns-2 c q good =
+returns-2 c q measured =
     let x = c .before .before in
     let a = x .before .before .before .args in
     rule-empty q (a .table .now) (a .at) (a .s .now) (x .if1 .taken) (c .if2 .left)
@@ -30,17 +28,17 @@ cast-if3 c =
     omega (arith, c .shared-slice-known4 .given (a .at + limitColumn))
 
 returns-3 : tie.Need-returns-3
-returns-3 c q good =
+returns-3 c q measured =
     let x = c .before .before in
     let a = x .before .before .before .args in
-    rule-long q (a .table .now) (a .at) (a .s .now) (x .if1 .left) (c .if3 .taken)
+    rule-long q (a .table .now) (a .at) (a .s .now) (x .if1 .left) (a .n) measured (c .if3 .taken)
 
 returns-4 : tie.Need-returns-4
-returns-4 c q good =
+returns-4 c q measured =
     let y = c .before .before .before in
     let x = y .before .before in
     let a = x .before .before .before .args in
-    rule-type q (a .table .now) (a .at) (a .s .now) (x .if1 .left) (y .if3 .left) false (sym (plain-good q (a .table .now) (a .at) (a .s .now) good (y .if3 .left))) refl
+    rule-type q (a .table .now) (a .at) (a .s .now) (x .if1 .left) (a .n) measured (y .if3 .left)
     _ (c .before .type-reason .ensures) (c .if4 .taken)
 
 -- the lists stand in front of the rows
@@ -60,24 +58,24 @@ cast-result c =
     omega (arith, row-reason (a .args .table .now) (a .args .at) (a .args .s .now) _ (v .before .is-in-list .ensures) (v .if5 .taken) (a .pre .1))
 
 returns-5 : tie.Need-returns-5
-returns-5 c q good =
+returns-5 c q measured =
     let v = c .before in
     let w = v .before .before .before .before .before in
     let y = w .before .before .before in
     let x = y .before .before in
     let o = x .before .before .before in
     let a = o .args in
-    rule-list q (a .table .now) (a .at) (a .s .now) (x .if1 .left) (y .if3 .left) false (sym (plain-good q (a .table .now) (a .at) (a .s .now) good (y .if3 .left))) refl
+    rule-list q (a .table .now) (a .at) (a .s .now) (x .if1 .left) (a .n) measured (y .if3 .left)
     _ (w .before .type-reason .ensures) (w .if4 .left) _ (v .before .is-in-list .ensures) (v .if5 .taken) (o .pre .1)
 
 returns-6 : tie.Need-returns-6
-returns-6 c q good =
+returns-6 c q measured =
     let w = c .before .before .before .before .before in
     let y = w .before .before .before in
     let x = y .before .before in
     let o = x .before .before .before in
     let a = o .args in
-    rule-good q (a .table .now) (a .at) (a .s .now) (x .if1 .left) (y .if3 .left) false (sym (plain-good q (a .table .now) (a .at) (a .s .now) good (y .if3 .left))) refl
+    rule-good q (a .table .now) (a .at) (a .s .now) (x .if1 .left) (a .n) measured (y .if3 .left)
     _ (w .before .type-reason .ensures) (w .if4 .left) _ (c .before .is-in-list .ensures) (c .if5 .left)
 
 pub plain-reason-spec : {M : Type 1} → statement M

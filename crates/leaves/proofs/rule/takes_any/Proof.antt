@@ -16,7 +16,7 @@ cast-result : tie.Need-cast-result
 cast-result c = omega (arith, c .shared-slice-known .given (c .before .args .at + limitColumn))
 
 returns : tie.Need-returns
-returns c = λ e q s n good p.
+returns c = λ e q s measured p.
     let a = c .before .before .before .args in
     let table = a .table .now in
     let type = getD table (a .at + typeColumn) 0 in
@@ -25,7 +25,7 @@ returns c = λ e q s n good p.
     let x = both (ltb 0 (a .n)) (leb (a .n) most && (ltb 4 type && eqb list 0)) e in
     let y = both (leb (a .n) most) (ltb 4 type && eqb list 0) (x .1) in
     let z = both (ltb 4 type) (eqb list 0) (y .1) in
-    rule-any q table (a .at) s (omega (arith, n, ltb-true 0 (a .n) (x .0))) (omega (arith, n, leb-true (a .n) most (y .0))) (ltb-true 4 type (z .0)) (eqb-true list 0 (z .1)) good p
+    rule-any q table (a .at) s (a .n) measured (ltb-true 0 (a .n) (x .0)) (leb-true (a .n) most (y .0)) (ltb-true 4 type (z .0)) (eqb-true list 0 (z .1)) p
 
 pub takes-any-spec : {M : Type 1} → statement M
 takes-any-spec =
