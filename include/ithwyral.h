@@ -31,7 +31,7 @@
 extern "C" {
 #endif
 
-/* Sizes in bytes: of a slot of the book; of the longest reply that there can be; of the longest message. */
+/* Sizes in bytes: of a slot of the book; of a buffer that has room for every reply; of the longest message. */
 enum {
     ITHWYRAL_SLOT_SIZE = 1024,
     ITHWYRAL_LONGEST_REPLY = 3200,

@@ -33,7 +33,7 @@ use std::fmt;
 /// The bytes of a slot of the book.
 pub const SLOT_SIZE: usize = 1024;
 
-/// The bytes of the longest reply: a buffer of this size is never refused as [`Refusal::NoRoom`].
+/// The bytes of a buffer that has room for every reply: it is never refused as [`Refusal::NoRoom`].
 pub const LONGEST_REPLY: usize = 3200;
 
 /// The bytes of the longest message.

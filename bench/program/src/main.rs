@@ -26,8 +26,7 @@ usage: bench ours|second frame|judge|look|reply|short|file TIMES [timed] < MESSA
 pub const STAMP: &[u8] = b"20240305101501";
 pub const NUMBER: &[u8] = b"K1";
 
-/// A buffer with room for every reply, and one that has room for most.
-const BUFFER: usize = 3200;
+/// A buffer that has room for most replies. The one lent otherwise has room for every one.
 const SHORT_BUFFER: usize = 1200;
 
 /// Where the message begins: 0, but loaded anew before each call, so that no two calls are known to be equal.
@@ -87,7 +86,7 @@ fn run(entry: Entry, times: NonZeroU64, is_timed: bool, message: &[u8]) {
     let observations = message.split(|&byte| byte == b'\r').filter(|segment| segment.starts_with(b"OBX"));
     let mut lent = Lent {
         last: observations.count() as u64,
-        buffer: vec![0; BUFFER],
+        buffer: vec![0; ithwyral::LONGEST_REPLY],
         book: vec![0; 1024],
     };
     let mut answers: u64 = 0;

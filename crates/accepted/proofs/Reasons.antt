@@ -7,7 +7,7 @@ use lib.Dec.{leb}
 use native.Mathlib.Omega.{arith}
 use borrow.Author.Tests.{le-leb, leb-true}
 use Rattle.text.specs.Bytes.{Text, every, same}
-use Rattle.text.specs.Limits.{_to_, isWithin}
+use Rattle.text.specs.Ranges.{_to_, isWithin}
 use Rattle.text.proofs.Tests.{both, within-low, within-high}
 use Rattle.profile.specs.Table.{Table, Leaf}
 use Rattle.profile.specs.Order.{reasonFits}

@@ -9,7 +9,7 @@ use lib.ListN.{length, drop}
 use lib.Dec.{eqb, leb}
 use borrow.Author.Tests.{eqb-true, leb-true, leb-false, not-false}
 use Rattle.text.specs.Bytes.{Text, pick, printable, every}
-use Rattle.text.specs.Limits.{_to_, isWithin}
+use Rattle.text.specs.Ranges.{_to_, isWithin}
 use Rattle.text.specs.Answer.{given, passes}
 use Rattle.text.proofs.Tests.{both, not-true as false-true}
 use Rattle.text.proofs.Answer.{passes-rest, given-passes, first-asked}

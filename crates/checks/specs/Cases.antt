@@ -104,7 +104,7 @@ PlaceBeforeSegment =
     (lookUp (closed cr (bytes msh ∷ [])) (place (bytes "ZZX") 513 1 1 1 1) ≡ refused BadPlace)
     × (lookUp (closed cr (bytes msh ∷ [])) (place (bytes "ZZX") 512 1 1 1 1) ≡ refused NoSegment)
 
--- A LEAF OF ITS OWN, as 01's table has none
+-- LEAVES SUCH AS 01'S TABLE HAS NONE
 abbrev pub toldLeaf : Leaf → String → Verdict
 toldLeaf l s = firstBroken (leafChecks usual (place (bytes "ZZX") 1 1 1 1 1) l (bytes s))
 

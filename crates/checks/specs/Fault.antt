@@ -10,7 +10,7 @@ use Rattle.text.specs.Answer.{Answer, first}
 use Rattle.text.specs.declared.marks.Marks.{Marks}
 use Rattle.text.specs.Marks.{marksOf}
 use Rattle.escape.specs.Escape.{badEscape, tooLong}
-use Rattle.text.specs.Limits.{_to_, isWithin}
+use Rattle.text.specs.Ranges.{_to_, isWithin}
 use Rattle.frame.specs.Frame.{frameTests}
 use Rattle.profile.specs.Table.{Table, Codes, any, only, Leaf, Usage, O, R, C, ofType, noSuchDay, mayFollow, mayEnd}
 use Rattle.checks.specs.Place.{Place, place}

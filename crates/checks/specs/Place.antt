@@ -7,7 +7,7 @@ use lib.Dec.{eqb}
 use Rattle.text.specs.Bytes.{Text, pick, empty}
 use Rattle.text.specs.declared.marks.Marks.{Marks}
 use Rattle.text.specs.Marks.{marksOf}
-use Rattle.text.specs.Limits.{_to_, isWithin}
+use Rattle.text.specs.Ranges.{_to_, isWithin}
 use Rattle.parts.specs.Split.{split, Located, whole, nothing}
 use Rattle.parts.specs.Descent.{part, inField}
 use Rattle.frame.specs.Frame.{mostSegments}

@@ -5,7 +5,7 @@ use mathlib.Core.List.{List, [], _∷_}
 use lib.ListN.{length}
 use lib.Dec.{leb}
 use Rattle.text.specs.Bytes.{Text, every, isOne}
-use Rattle.text.specs.Limits.{_to_, isWithin}
+use Rattle.text.specs.Ranges.{_to_, isWithin}
 use Rattle.profile.specs.Table.{Codes, any, only, Leaf, Listed, leaf, named-by, Row, Type-leaves, Table, ofType, noSuchDay}
 
 -- no text is one of those after it

@@ -7,7 +7,7 @@ use mathlib.Core.List.{List, [], _∷_, map}
 use lib.ListN.{length, getD, take}
 use lib.Dec.{eqb, leb, ltb}
 use Rattle.text.specs.Bytes.{pick, every}
-use Rattle.text.specs.Limits.{_to_, isWithin}
+use Rattle.text.specs.Ranges.{_to_, isWithin}
 use Rattle.profile.specs.Table.{Simple, SI, NM, DTM, TM, ST, TX, FT, ID, IS, Codes, any, only, Leaf}
 use Rattle.profile.specs.Codes.{HasLists}
 use Rattle.profile.specs.Numbers.{rowSize, segmentColumn, fieldColumn, componentColumn, subcomponentColumn, repetitionsColumn, typeColumn, nextColumn, sureColumn, firstType, namedBy, firstField, firstNamer, leafOf, rowsWithin, begin, under}

@@ -7,7 +7,7 @@ use mathlib.Core.List.{List, [], _∷_}
 use lib.ListN.{length, drop, length-take, length-drop}
 use borrow.Author.Tests.{not-true, not-false}
 use Rattle.text.specs.Bytes.{Text, within}
-use Rattle.text.specs.Limits.{_to_, isWithin}
+use Rattle.text.specs.Ranges.{_to_, isWithin}
 use Rattle.text.proofs.Tests.{both, within-low}
 use Rattle.text.specs.Answer.{Answer, refused, given, Test, test, first}
 use Rattle.text.specs.declared.refusal.Refusal.{Refusal}

@@ -14,7 +14,7 @@ use Rattle.text.specs.declared.marks.Marks.{Marks}
 use Rattle.escape.specs.Escape.{badEscape, resolved, tooLong}
 use Rattle.escape.proofs.Escapes.{written-length}
 use Rattle.types.specs.Types.{isDTM, dayExists, isStamp, isReplyNumber}
-use Rattle.text.specs.Limits.{_to_, isWithin}
+use Rattle.text.specs.Ranges.{_to_, isWithin}
 use Rattle.text.proofs.Tests.{not-true, both, picks, same-true}
 use Rattle.text.proofs.Lists.{All, or-either, or-none}
 use Rattle.text.proofs.Digits.{decimal-length}

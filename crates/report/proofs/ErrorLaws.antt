@@ -9,7 +9,7 @@ use lib.Dec.{eqb, ltb}
 use borrow.Author.Tests.{lt-ltb, le-ltb, ne-eqb, not-true, not-false}
 use Rattle.text.specs.Bytes.{Text, pick, bytes, byte, cr, empty}
 use Rattle.text.specs.Decimal.{decimal}
-use Rattle.text.specs.Limits.{_to_, isWithin}
+use Rattle.text.specs.Ranges.{_to_, isWithin}
 use Rattle.text.specs.Puts.{Puts}
 use Rattle.text.specs.Marks.{usual}
 use Rattle.parts.specs.Split.{led, join, closed}

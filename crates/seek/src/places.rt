@@ -1,7 +1,7 @@
 // Which places may be asked for.
 ghost use mathlib.Core.Path.{_≡_};
 ghost use mathlib.Core.List.{[], _∷_};
-ghost use Rattle.text.specs.Limits.{_to_, isWithin};
+ghost use Rattle.text.specs.Ranges.{_to_, isWithin};
 ghost use Rattle.checks.specs.Place.{place, isPlace};
 use frame::is_name;
 use parts::Numbers;

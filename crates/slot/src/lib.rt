@@ -17,9 +17,11 @@ use text::Marks;
 // Bytes of a slot.
 pub const SLOT_SIZE: usize = 1024;
 
-// A field: its tag, its length and its resolved text; an Empty one is left out. The text is put first; then its length is known.
+// A field: its tag, its length and its resolved text; an Empty one is left out.
+// The text is put first; then its length is known.
 fn put_text(slip: &mut [u8], at: usize, tag: u8, q: Marks, t: &[u8]) -> usize
-    requires { ⌜ Fits q longestText (now t) × (at + length (tagBytes (tagged tag (resolved q (now t)))) ≤ length (now slip)) ⌝ }
+    requires { ⌜ Fits q longestText (now t) ⌝ }
+    requires { ⌜ at + length (tagBytes (tagged tag (resolved q (now t)))) ≤ length (now slip) ⌝ }
     ensures { λ r. ⌜ Puts (now (slip .entry)) at (tagBytes (tagged tag (resolved q (now (t .entry))))) (now (slip .exit)) r ⌝ }
 {
     if t.len() == 0 {
@@ -67,7 +69,8 @@ pub fn fill(
     put_count(slip, e, count);
 }
 
-// NO SLOT: the book's length is divided. A slot is multiplied only once it has passed this test, since a large one would wrap.
+// NO SLOT: the book's length is divided.
+// A slot is multiplied only once it has passed this test, since a large one would wrap.
 pub fn no_slot(book: &[u8], slot: usize) -> bool
     ensures { λ r. ⌜ r ≡ noSlot (now (book .entry)) slot ⌝ }
 {

@@ -6,7 +6,7 @@ use mathlib.Core.List.{List, [], _∷_}
 use lib.ListN.{getD, take, drop}
 use lib.Dec.{eqb, leb}
 use Rattle.text.specs.Bytes.{Text, pick, printable, every}
-use Rattle.text.specs.Limits.{_to_, isWithin}
+use Rattle.text.specs.Ranges.{_to_, isWithin}
 
 -- the tags that are not like the others: the control number's value is shorter, the placer's number may be left out, the count is no text
 abbrev pub controlTag : ℕ

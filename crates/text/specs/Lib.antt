@@ -4,7 +4,7 @@ pub mod Answer
 pub mod Decimal
 pub mod Part
 pub mod Marks
-pub mod Limits
+pub mod Ranges
 -- A demand is said with this.
 pub mod First
 -- Inner: no entry's promise is made of this.

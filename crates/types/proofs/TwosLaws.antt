@@ -11,7 +11,7 @@ use lib.ListN.{length, getD, take, drop, length-drop}
 use lib.Seq.{drop-cons, drop-drop}
 use lib.Dec.{eqb, leb, leb·zero, leb·suc-zero, leb·suc-suc, eqb·zero-suc, eqb·suc-suc}
 use Rattle.text.specs.Bytes.{Text, pick, digit, every}
-use Rattle.text.specs.Limits.{Range, _to_, isWithin}
+use Rattle.text.specs.Ranges.{Range, _to_, isWithin}
 use Rattle.text.proofs.Tests.{not-true as no, both, and-false}
 use Rattle.types.specs.Types.{digits, rest, begins, two, twos, clock, calendar, isZone, isFraction, isDTM, isTM}
 use Rattle.types.specs.Inner.{rangesOf, twosLength}

@@ -11,7 +11,7 @@ use lib.Seq.{drop-cons}
 use lib.Dec.{eqb, leb, ltb, eqb·zero-suc, eqb·suc-suc}
 use Rattle.text.specs.Bytes.{Text, pick, digit, empty, every}
 use Rattle.types.specs.Types.{digits, rest, begins, two, twos}
-use Rattle.text.specs.Limits.{Range, isWithin}
+use Rattle.text.specs.Ranges.{Range, isWithin}
 use Rattle.text.proofs.Tests.{both, and-false}
 use Rattle.text.proofs.Lists.{part-rest}
 

@@ -4,7 +4,7 @@ use Prim.Native.Nat.{ℕ, suc}
 use mathlib.Core.Bool.{_&&_}
 use mathlib.Core.List.{List, [], _∷_}
 use Rattle.text.specs.Bytes.{Text, pick, digit}
-use Rattle.text.specs.Limits.{Range, _to_, isWithin}
+use Rattle.text.specs.Ranges.{Range, _to_, isWithin}
 use Rattle.types.specs.Types.{two}
 
 -- ranges from a list of low, high, low, high

@@ -5,7 +5,7 @@ use mathlib.Core.Bool.{Bool, true, false, not, _&&_, _||_}
 use mathlib.Core.List.{List, [], _∷_}
 use lib.ListN.{length, getD, drop}
 use lib.Dec.{eqb, leb}
-use Rattle.text.specs.Limits.{Range, _to_, isWithin}
+use Rattle.text.specs.Ranges.{Range, _to_, isWithin}
 use Rattle.text.specs.Bytes.{Text, pick, byte, digit, capitalOrDigit, empty, every, some}
 
 -- the digits that a text begins with, and what follows them

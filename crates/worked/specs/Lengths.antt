@@ -1,11 +1,12 @@
 -- No entry's promise is made of this: it tries the definitions.
--- A length is that of the text that a person reads: cases with escapes, and the longest reply.
+-- A length is that of the text that a person reads: cases with escapes, and a reply of 3,074 bytes.
 use Prim.Native.Nat.{ℕ}
 use Prim.Native.String as string
 use mathlib.Core.List.{List, [], _∷_, _++_}
-use lib.ListN.{length}
-use Rattle.text.specs.Bytes.{Text, bytes, cr}
+use lib.ListN.{length, replicate}
+use Rattle.text.specs.Bytes.{Text, bytes, byte, cr}
 use Rattle.text.specs.Decimal.{decimal}
+use Rattle.parts.specs.Split.{closed}
 use Rattle.profile.specs.Profile.{profile01}
 use Rattle.reply.specs.Reply.{reply}
 use Rattle.worked.specs.Messages.{message, msh, pid, obr, obx, withPID, withOBX, desk, outcome, replyTo}
@@ -21,7 +22,7 @@ from practice control =
 abbrev observed : string.String → Text → Text
 observed type value = desk (valued (bytes type) value)
 
--- the desk's line for M's own OBX with so many ampersands in a field
+-- the desk's line for M with an OBX that has so many ampersands in a field
 abbrev inField : string.String → ℕ → string.String → Text
 inField before n after = desk (message (msh ∷ pid ∷ obr ∷ []) ++ bytes before ++ ampersands n ++ bytes after ++ (cr ∷ []))
 
@@ -57,10 +58,13 @@ judged =
     ∷ (desk (withPID "PID|1||A55||LANE||20240301|\\T\\") says bytes "fault PID 1 8 1 1 1 103 8")
     ∷ []
 
--- M with the four parties, the control number and the processing id as told
+abbrev fourTimes : Text → Text
+fourTimes party = closed (byte "|") (replicate 4 party)
+
+-- M with one party in four fields, the control number and the processing id as told
 abbrev headed : Text → Text → string.String → Text
 headed party control processing =
-    bytes "MSH|^~\\&|" ++ party ++ bytes "|" ++ party ++ bytes "|" ++ party ++ bytes "|" ++ party ++ bytes "|2024||ORU^R01|" ++ control
+    bytes "MSH|^~\\&|" ++ fourTimes party ++ bytes "2024||ORU^R01|" ++ control
     ++ bytes "|" ++ bytes processing ++ bytes "|2.5.1" ++ (cr ∷ []) ++ message (pid ∷ obr ∷ obx ∷ [])
 
 -- a party with the longest leaves
@@ -73,7 +77,7 @@ longestAsked = headed party (ampersands 20) "Q"
 
 abbrev longestReplied : Text
 longestReplied =
-    bytes "MSH|^~\\&|" ++ party ++ bytes "|" ++ party ++ bytes "|" ++ party ++ bytes "|" ++ party ++ bytes "|20240305101501||ACK^R01^ACK|"
+    bytes "MSH|^~\\&|" ++ fourTimes party ++ bytes "20240305101501||ACK^R01^ACK|"
     ++ letters 20 ++ bytes "|P|2.5.1" ++ (cr ∷ []) ++ bytes "MSA|AR|" ++ ampersands 20 ++ (cr ∷ [])
     ++ message ("ERR||MSH^1^11^1^1^1|202^Unsupported processing id^HL70357|E" ∷ [])
 

@@ -6,7 +6,7 @@ use borrow.Author.Tests.{not-true, not-false}
 use borrow.Author.Needs.{needs}
 use lib.ListN.{length}
 use Rattle.text.specs.Bytes.{Text}
-use Rattle.text.specs.Limits.{_to_, isWithin}
+use Rattle.text.specs.Ranges.{_to_, isWithin}
 use Rattle.types.specs.Types.{behindPoint, digits, isFraction, isZone, rest}
 use Rattle.types.proofs.TypeLaws.{part-after-digits}
 use Rattle.types.proofs.is_fraction.Statement.{statement}

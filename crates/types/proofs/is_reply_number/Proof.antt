@@ -7,7 +7,7 @@ use borrow.Author.Tests.{not-true, not-false}
 use lib.ListN.{length, drop}
 use Rattle.text.specs.Bytes.{Text, capitalOrDigit, every}
 use Rattle.types.specs.Types.{isReplyNumber}
-use Rattle.text.specs.Limits.{_to_, isWithin}
+use Rattle.text.specs.Ranges.{_to_, isWithin}
 use Rattle.text.proofs.Lists.{every-step, every-end}
 use Rattle.types.proofs.is_reply_number.Statement.{statement}
 use Rattle.types.proofs.is_reply_number.Tie as tie
