@@ -1,1 +1,2 @@
 // Laws of accepted messages and of faults: no code.
+#![tactic(auto)]

@@ -1,4 +1,6 @@
 // The enquiry desk's reply: a message on standard input, the stamp and the reply number as arguments.
+#![tactic(auto)]
+
 ghost use Rattle.std.specs.Prelude.{◌≤◌, length};
 ghost use Rattle.profile.specs.Profile.{profile01};
 ghost use Rattle.reply.specs.Reply.{reply};

@@ -1,4 +1,6 @@
 // The number that a program is asked for, as an argument writes it.
+#![tactic(auto)]
+
 ghost use Rattle.std.specs.Prelude.{◌+◌, ◌*◌, ◌-◌, ◌≤◌, ◌≡◌, length};
 ghost use Rattle.text.specs.Bytes.{byte};
 ghost use Rattle.asked.specs.Asked.{fitting, asked};
@@ -6,7 +8,7 @@ ghost use Rattle.asked.specs.Asked.{fitting, asked};
 use text::is_digit;
 
 // Every number above 65,535 is no place, so one that does not fit is given as the largest: the answer is the same.
-#[derive(Drop)]
+#[derive(Clone, Copy)]
 pub enum Asked {
     Bad,
     Number(u64),

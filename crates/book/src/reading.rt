@@ -74,7 +74,7 @@ fn part_of<'a>(book: &'a [u8], v: Value) -> &'a [u8]
 }
 
 // A reading's sort beside the very part of the book: of a refusal, no bytes at the book's start.
-#[derive(Drop)]
+#[derive(Clone, Copy)]
 pub struct SlipValue<'a> {
     pub sort: Value,
     pub value: &'a [u8],

@@ -1,4 +1,6 @@
 // The six entries for callers of C and Rust: plain numbers and slices, no enum. Nothing is asked of what is handed over.
+#![tactic(auto)]
+
 ghost use Rattle.profile.specs.Profile.{profile01};
 ghost use Rattle.cabi.specs.Promise.{JudgeTells, LookUpTells, ResolveTells, ReplyTells, FileTells, ReadTells};
 

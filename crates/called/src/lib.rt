@@ -1,6 +1,8 @@
 // Four of the six entries, each called as it is, under the promise that the three demands are about; demands/specs/Promises.antt has the other two.
 // Nothing is asked of the caller. Where an entry came to promise less, or to ask for something first, this crate would no longer be proved,
 // and the demands would speak of nothing.
+#![tactic(auto)]
+
 ghost use Rattle.escape.specs.Promise.{Resolves};
 ghost use Rattle.profile.specs.Profile.{profile01};
 ghost use Rattle.reader.specs.Promise.{Judges};

@@ -1,4 +1,6 @@
 // The lists of codes as they are printed for the wall: the line of a row.
+#![tactic(auto)]
+
 mod row;
 
 pub use row::put_row;

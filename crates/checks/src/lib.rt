@@ -1,4 +1,6 @@
 // Condition codes.
+#![tactic(auto)]
+
 ghost use Rattle.std.specs.Prelude.{◌≡◌};
 ghost use Rattle.checks.specs.Fault;
 

@@ -1,4 +1,6 @@
 // The lists of codes for the wall: all of them, or those of the place that the arguments name.
+#![tactic(auto)]
+
 ghost use Rattle.std.specs.Prelude.{◌≤◌, length};
 ghost use Rattle.text.specs.Puts.{Puts};
 ghost use Rattle.profile.specs.Profile.{profile01};

@@ -1,4 +1,5 @@
 // Types, lists and names by their numbers, and the reading of a lent table.
+#![tactic(auto)]
 
 mod codes;
 mod lists;

@@ -8,7 +8,7 @@ ghost use Rattle.codes.specs.Inner.{AreListed};
 use profile::{columns, numbers};
 
 // Codes that follow one another: where the first begins and the last ends.
-#[derive(Drop)]
+#[derive(Clone, Copy)]
 pub struct CodeRange {
     pub start: usize,
     pub end: usize,

@@ -8,7 +8,7 @@ use crate::codes::type_number;
 use profile::columns;
 
 // Rows that follow one another: where the first begins and the last ends.
-#[derive(Drop)]
+#[derive(Clone, Copy)]
 pub struct Rows {
     pub start: usize,
     pub end: usize,

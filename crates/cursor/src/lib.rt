@@ -1,4 +1,6 @@
 // Going from piece to piece of a text, each byte passed once. Inner: the callers hold that the cursor stands at a piece of the text.
+#![tactic(auto)]
+
 ghost use Rattle.std.specs.Prelude.{◌≡◌, ◌+◌, ◌≤◌, length, drop};
 ghost use Rattle.parts.specs.Start.{reach};
 ghost use Rattle.cursor.specs.Cursor.{IsPiece};
@@ -6,7 +8,7 @@ ghost use Rattle.cursor.specs.Cursor.{IsPiece};
 use parts::{near_end, piece_end};
 
 // The piece with that number, from 1. Where there is none it is empty and stands at the text's end.
-#[derive(Drop)]
+#[derive(Clone, Copy)]
 pub struct Cursor {
     pub number: u64,
     pub start: usize,

@@ -1,5 +1,7 @@
 // The texts of a segment's fields and leaves, for those who copy them. Whoever wants several fields goes from one to the next by `behind`, so that each
 // byte of the segment is passed once.
+#![tactic(auto)]
+
 ghost use Rattle.std.specs.Prelude.{◌≡◌, true, false, ◌≤◌, drop, take};
 ghost use Rattle.parts.specs.Split.{split, piece};
 ghost use Rattle.frame.specs.Segments.{is_header, unsplit};

@@ -1,4 +1,6 @@
 // Escapes: the text that a person reads, and its length. A text with a bad escape has neither.
+#![tactic(auto)]
+
 ghost use Rattle.std.specs.Prelude.{◌≡◌, false, ◌+◌, ◌≤◌, ◌<◌, length, get_or, drop};
 ghost use Rattle.text.specs.Bytes.{every};
 ghost use Rattle.escape.specs.Escape.{is_escape, bad_escape, resolved};
@@ -54,7 +56,7 @@ fn is_free(t: &[u8], mark: u8) -> bool
 }
 
 // The length of the text that a person reads; a text with a bad escape has none.
-#[derive(Drop)]
+#[derive(Clone, Copy)]
 pub enum Length {
     BadEscape,
     Bytes(usize),

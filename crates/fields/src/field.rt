@@ -11,7 +11,7 @@ use text::Marks;
 
 // Whether a field has more repetitions than it may; whether its first one is filled; the reason of the first broken check of the
 // filled ones, 0 where there is none, and the place of that leaf.
-#[derive(Drop)]
+#[derive(Clone, Copy)]
 pub struct ReadField {
     pub surplus: bool,
     pub filled: bool,

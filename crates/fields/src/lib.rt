@@ -1,4 +1,6 @@
 // Judging a field: its repetitions. Inner: the callers hold what the rows list.
+#![tactic(auto)]
+
 mod field;
 mod flat;
 

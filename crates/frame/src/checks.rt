@@ -12,7 +12,7 @@ use crate::segment::{is_header, is_segment};
 use parts::far_end;
 use text::{Refusal, is_printable, is_same, marks_of};
 
-#[derive(Drop)]
+#[derive(Clone, Copy)]
 pub enum Framing {
     Refused(Refusal),
     Framed,

@@ -1,4 +1,6 @@
 // The eight frame checks; segments and their names.
+#![tactic(auto)]
+
 mod checks;
 pub mod limits;
 mod segment;

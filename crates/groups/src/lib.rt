@@ -1,4 +1,6 @@
 // Groups: counting the observations of one.
+#![tactic(auto)]
+
 ghost use Rattle.std.specs.Prelude.{◌≡◌, ◌≤◌, length, drop};
 ghost use Rattle.frame.specs.Segments.{segments};
 ghost use Rattle.groups.specs.Observations as Group;

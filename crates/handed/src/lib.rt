@@ -1,4 +1,6 @@
 // The two entries that hand out a part of lent memory are asked, and the very part is told.
+#![tactic(auto)]
+
 use reader::Place;
 use telling::{tell_found, tell_value};
 

@@ -1,5 +1,7 @@
 // The reply's header: fixed bytes, and leaves of the message's own header. That header is handed down as what stands of it from a field on, so that no field
 // is sought twice.
+#![tactic(auto)]
+
 pub mod copied;
 
 ghost use Rattle.std.specs.Prelude.{◌≡◌, [], ◌∷◌, ◌++◌, ◌+◌, ◌≤◌, length};

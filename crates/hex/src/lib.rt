@@ -1,4 +1,6 @@
 // Bytes in hexadecimal digits.
+#![tactic(auto)]
+
 ghost use Rattle.std.specs.Prelude.{◌≡◌, ◌*◌, ◌≤◌, ◌<◌, length};
 ghost use Rattle.text.specs.Puts.{Puts};
 ghost use Rattle.hex.specs.Hex.{hex_digit, behind, hex_lines};

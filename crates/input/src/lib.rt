@@ -1,11 +1,13 @@
 // A window on standard input: what is read and not used yet is kept, and more is read after it.
+#![tactic(auto)]
+
 ghost use Rattle.std.specs.Prelude.{◌+◌, ◌≤◌, length};
 ghost use Rattle.input.specs.Inside.{Inside};
 
 use libc::STDIN_FILENO;
 
 // The bytes from `from` up to `to` are read and not answered yet; up to `seen` they have no line feed.
-#[derive(Drop)]
+#[derive(Clone, Copy)]
 pub struct Window {
     pub from: usize,
     pub seen: usize,

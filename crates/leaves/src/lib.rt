@@ -1,4 +1,6 @@
 // Judging a leaf: its own rule, the listed leaves of a repetition. Inner: the callers hold what the rows list.
+#![tactic(auto)]
+
 mod repetition;
 mod rule;
 

@@ -12,7 +12,7 @@ use profile::{columns, numbers};
 use text::Marks;
 
 // Whether a repetition is filled; the reason of its first broken check, 0 where there is none, and the place of that leaf.
-#[derive(Drop)]
+#[derive(Clone, Copy)]
 pub struct ReadRepetition {
     pub filled: bool,
     pub reason: u8,

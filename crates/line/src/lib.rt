@@ -1,4 +1,6 @@
 // The lines that the desk's programs print. Inner: the program lends the bytes for a line (`sizes`).
+#![tactic(auto)]
+
 pub mod sizes;
 
 ghost use Rattle.std.specs.Prelude.{◌+◌, ◌≤◌, ◌∷◌, length};

@@ -1,4 +1,6 @@
 // Listed segments one after another, and which of its name one is.
+#![tactic(auto)]
+
 ghost use Rattle.std.specs.Prelude.{◌≡◌, List, ℕ, ◌+◌, ◌≤◌, length};
 ghost use Rattle.text.specs.Bytes.{same, within};
 ghost use Rattle.frame.specs.Segments.{name};
@@ -11,7 +13,7 @@ use parts::far_end;
 use text::is_same;
 
 // Where a listed segment stands, its CR not counted, and the number of its name.
-#[derive(Drop)]
+#[derive(Clone, Copy)]
 pub enum Listed {
     None,
     Segment {

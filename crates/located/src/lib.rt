@@ -1,5 +1,7 @@
 // Where the text of a listed field stands, and which rows list its leaves. Inner: the callers hold the table's rule, and that the segment has the name of
 // its number.
+#![tactic(auto)]
+
 ghost use Rattle.std.specs.Prelude.{◌≡◌, false, ◌+◌, ◌≤◌, min, length};
 ghost use Rattle.profile.specs.Numbers.{fields_before, fields_from, first_field};
 ghost use Rattle.text.specs.Bytes.{within};

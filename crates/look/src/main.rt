@@ -1,10 +1,12 @@
 // The enquiry desk's look-up: a message on standard input, the place as arguments.
+#![tactic(auto)]
+
 use asked::{Asked, number_at};
 use libc::{STDIN_FILENO, STDOUT_FILENO};
 use numbers::place_asked;
 use reader::{Found, Place};
 
-#[derive(Drop)]
+#[derive(Clone, Copy)]
 enum Question {
     Bad,
     At(Place),

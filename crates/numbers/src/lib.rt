@@ -1,4 +1,6 @@
 // Numbers for callers of C and Rust: what is told of each answer, by the number returned and the numbers in the lent list; and the place asked for.
+#![tactic(auto)]
+
 ghost use Rattle.std.specs.Prelude.{◌≡◌};
 ghost use Rattle.text.specs.Answer.{written_of};
 ghost use Rattle.reader.specs.Fault.{fault};

@@ -1,5 +1,7 @@
 // The page of the lists of codes: the lines of every row that has a list, segment by segment.
 // Inner: the callers hold the table's rule, and lend room.
+#![tactic(auto)]
+
 ghost use Rattle.std.specs.Prelude.{◌≡◌, ℕ, ◌+◌, ◌≤◌, length};
 ghost use Rattle.text.specs.Puts.{Puts};
 ghost use Rattle.profile.specs.Codes.{HasLists};

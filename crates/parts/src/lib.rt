@@ -1,4 +1,6 @@
 // The one splitting rule, and the descent into a part.
+#![tactic(auto)]
+
 ghost use Rattle.std.specs.Prelude.{◌≡◌, false, ◌+◌, ◌≤◌, length, drop};
 ghost use Rattle.parts.specs.Split.{split};
 ghost use Rattle.parts.specs.Start.{start, reach};
@@ -8,14 +10,14 @@ ghost use Rattle.parts.specs.Span.{span, part_text, part_start, mark_at_depth, n
 use text::Marks;
 
 // The bytes from start up to, not including, end.
-#[derive(Drop)]
+#[derive(Clone, Copy)]
 pub struct Span {
     pub start: usize,
     pub end: usize,
 }
 
 // The numbers that lead from a segment's fields to a leaf, each from 1.
-#[derive(Drop)]
+#[derive(Clone, Copy)]
 pub struct Numbers {
     pub field: u64,
     pub repetition: u64,

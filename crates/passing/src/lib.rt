@@ -1,5 +1,7 @@
 // Most segments break nothing, and most of their fields are short texts. That a segment breaks nothing is seen here quickly; where it is not seen, it is read field
 // by field. Inner: the callers hold the table's rule, and that the segment has the name of its number.
+#![tactic(auto)]
+
 mod segment;
 
 ghost use Rattle.profile.specs.Numbers.{table_of};

@@ -1,4 +1,6 @@
 // The depot's own table, its lists code by code and its rows leaf by leaf.
+#![tactic(auto)]
+
 ghost use Rattle.std.specs.Prelude.{◌≡◌, true, length};
 ghost use Rattle.profile.specs.Codes.{codes_from, are_codes};
 ghost use Rattle.profile.specs.Lists.{processing_ids};

@@ -1,4 +1,6 @@
 // Places, look-up and judging.
+#![tactic(auto)]
+
 mod judging;
 mod places;
 mod search;
@@ -15,7 +17,7 @@ use text::Refusal;
 pub use texts::{fields_in, is_processing_id, text_in};
 
 // A place: the name's three bytes, and the numbers as they are asked, of any size.
-#[derive(Drop)]
+#[derive(Clone, Copy)]
 pub struct Place {
     pub first: u8,
     pub second: u8,
@@ -28,7 +30,7 @@ pub struct Place {
 }
 
 // What a look-up finds: the text is the message's bytes from start up to end.
-#[derive(Drop)]
+#[derive(Clone, Copy)]
 pub enum Found {
     Refused(Refusal),
     Empty,
@@ -36,13 +38,13 @@ pub enum Found {
 }
 
 // The first fault of a message.
-#[derive(Drop)]
+#[derive(Clone, Copy)]
 pub struct Fault {
     pub place: Place,
     pub reason: u8,
 }
 
-#[derive(Drop)]
+#[derive(Clone, Copy)]
 pub enum Verdict {
     Refused(Refusal),
     Accepted,

@@ -72,7 +72,7 @@ fn text_of<'a>(m: &'a [u8], f: Found) -> &'a [u8]
 }
 
 // A look-up's sort beside the very part of the message: of no text, no bytes at the message's start.
-#[derive(Drop)]
+#[derive(Clone, Copy)]
 pub struct LookedUp<'a> {
     pub sort: Found,
     pub text: &'a [u8],

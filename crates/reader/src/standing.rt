@@ -6,7 +6,7 @@ use frame::has_name;
 use parts::far_end;
 
 // Where an occurrence of a name stands, its CR not counted.
-#[derive(Drop)]
+#[derive(Clone, Copy)]
 pub enum Standing {
     Missing,
     Segment { start: usize, end: usize },

@@ -1,4 +1,6 @@
 // The calls that only read: each reads its words, the strings into memory of its own, asks its entry and tells the answer.
+#![tactic(auto)]
+
 use handed::{ask_look, ask_read};
 use numbers::place_asked;
 use strings::{memory, next_string};
@@ -17,7 +19,7 @@ pub fn judge(l: &[u8], at: usize, out: &mut [u8]) -> usize {
 }
 
 // Five numbers read from as many words, and whether these are the line's last.
-#[derive(Drop)]
+#[derive(Clone, Copy)]
 struct Asked {
     is_good: bool,
     numbers: [u64; 5],

@@ -3,7 +3,7 @@ use telling::tell_no_call;
 use text::is_same;
 use words::seek;
 
-#[derive(Drop)]
+#[derive(Clone, Copy)]
 enum Call {
     Judge,
     Look,

@@ -1,5 +1,7 @@
 // Calls as lines on standard input, and for each its answer as a line: docs/CALLS.md has their form. What the entries answer can so be
 // compared with what another program answers.
+#![tactic(auto)]
+
 mod calls;
 mod turns;
 

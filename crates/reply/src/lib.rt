@@ -1,4 +1,6 @@
 // The acknowledgement: the reply to a message.
+#![tactic(auto)]
+
 pub mod limits;
 
 ghost use Rattle.std.specs.Prelude.{◌≡◌, ◌≤◌, length};

@@ -1,4 +1,6 @@
 // The reply's code, and its ERR: the place and the condition of a fault.
+#![tactic(auto)]
+
 ghost use Rattle.std.specs.Prelude.{[], ◌∷◌, ◌+◌, ◌≤◌, length};
 ghost use Rattle.text.specs.Bytes.{pick, byte};
 ghost use Rattle.text.specs.Decimal.{decimal};

@@ -1,5 +1,7 @@
 // Where the leaf of a segment lies, and which places may be asked for. The functions of this file are inner: their callers hold that the segment lies in
 // the message.
+#![tactic(auto)]
+
 mod places;
 
 ghost use Rattle.std.specs.Prelude.{◌≡◌, true, ℕ, ◌+◌, ◌-◌, ◌≤◌, ◌<◌, min, length};
@@ -15,7 +17,7 @@ pub use places::may_be_asked;
 use text::Marks;
 
 // What is seen of a leaf: Empty, or the message's bytes from start up to end.
-#[derive(Drop)]
+#[derive(Clone, Copy)]
 pub enum Seen {
     Empty,
     Text { start: usize, end: usize },

@@ -1,4 +1,6 @@
 // A segment's listed fields. Inner: the callers hold the table's rule, and that the segment has the name of its number.
+#![tactic(auto)]
+
 ghost use Rattle.std.specs.Prelude.{◌≡◌, true, false, ◌+◌, ◌≤◌, length, get_or};
 ghost use Rattle.frame.specs.Segments.{field};
 ghost use Rattle.profile.specs.Numbers.{row_size, field_column, usage_column, usage_of, table_of};
@@ -23,7 +25,7 @@ use usage::is_required;
 const LONGEST: usize = 4096;
 
 // The reason of a segment's first broken check, 0 where there is none, and the place of it in the segment.
-#[derive(Drop)]
+#[derive(Clone, Copy)]
 pub struct Finding {
     pub reason: u8,
     pub field: u64,

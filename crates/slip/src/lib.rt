@@ -1,4 +1,6 @@
 // The slip of a group, and filing it in the slip book.
+#![tactic(auto)]
+
 mod filing;
 
 pub use filing::file;
@@ -6,7 +8,7 @@ pub use slot::{SLOT_SIZE, no_slot, slot_start};
 use text::Refusal;
 
 // A slip filed, or why not.
-#[derive(Drop)]
+#[derive(Clone, Copy)]
 pub enum Filed {
     Refused(Refusal),
     Slip,

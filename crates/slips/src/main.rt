@@ -1,4 +1,6 @@
 // The enquiry desk's slip: a message on standard input, the group as the argument.
+#![tactic(auto)]
+
 ghost use Rattle.std.specs.Prelude.{◌*◌, ◌≤◌, length, replicate};
 ghost use Rattle.text.specs.Puts.{Puts};
 ghost use Rattle.profile.specs.Profile.{profile01};

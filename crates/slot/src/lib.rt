@@ -1,4 +1,6 @@
 // The slot: filling one that is all zeros with a slip; whether a book has one, and where it begins.
+#![tactic(auto)]
+
 ghost use Rattle.std.specs.Prelude.{◌≡◌, false, ◌+◌, ◌≤◌, length};
 ghost use Rattle.escape.specs.Escape.{resolved};
 ghost use Rattle.escape.specs.Length.{Fits};

@@ -1,4 +1,6 @@
 // Strings of bytes as answers spell them: a byte by itself or by %XX, and a run of equal bytes in short. What has no room is left out.
+#![tactic(auto)]
+
 ghost use Rattle.std.specs.Prelude.{◌≤◌, ◌<◌, length};
 
 use strings::is_plain;

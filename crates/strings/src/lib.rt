@@ -1,4 +1,6 @@
 // The words of a line that spell strings of bytes.
+#![tactic(auto)]
+
 ghost use Rattle.std.specs.Prelude.{◌≤◌, length};
 
 mod reading;
@@ -8,7 +10,7 @@ use reading::read_string;
 use words::seek;
 
 // A string that was read into lent memory: how many bytes, and where the next word begins.
-#[derive(Drop)]
+#[derive(Clone, Copy)]
 pub struct Text {
     pub is_good: bool,
     pub count: usize,

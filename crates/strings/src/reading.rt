@@ -5,7 +5,7 @@ ghost use Rattle.std.specs.Prelude.{◌≤◌, ◌<◌, length};
 use words::{read_number, seek};
 
 // How far a word is read and how many bytes it gave. A run may follow a byte, and no other run.
-#[derive(Drop)]
+#[derive(Clone, Copy)]
 pub struct Reading {
     pub at: usize,
     pub count: usize,

@@ -1,4 +1,6 @@
 // The fields of a slip, read at their places.
+#![tactic(auto)]
+
 ghost use Rattle.std.specs.Prelude.{◌≡◌, [], ◌+◌, ◌*◌, ◌≤◌, length, drop};
 ghost use Rattle.text.specs.Bytes.{every, printable};
 ghost use Rattle.tags.specs.Fields.{count_size, is_slip_from, is_zero, most_of};
@@ -26,7 +28,7 @@ const LONGEST_TEXT: usize = 199;
 const GREATEST_COUNT: usize = 509;
 
 // A field of text as it stands in a slip: bad, or where the next field begins.
-#[derive(Drop)]
+#[derive(Clone, Copy)]
 pub enum Field {
     Bad,
     Ends(usize),

@@ -1,4 +1,6 @@
 // The lines that tell what an entry answered. What has no room is left out: the program lends room for every answer.
+#![tactic(auto)]
+
 use book::Value;
 use reader::{Found, Verdict};
 use slip::Filed;

@@ -1,4 +1,6 @@
 // Bytes and byte strings, the five separators, the very part of lent bytes, writing into a lent buffer; the numbers that a caller gets back.
+#![tactic(auto)]
+
 mod bytes;
 mod lent;
 mod marks;
@@ -14,7 +16,7 @@ pub use refusal::{Refusal, number};
 pub use writing::{put, put_decimal};
 
 // The answer of a call that writes into a lent buffer: refused, or so many bytes written.
-#[derive(Drop)]
+#[derive(Clone, Copy)]
 pub enum Written {
     Refused(Refusal),
     Bytes(usize),

@@ -1,4 +1,6 @@
 // Texts of the simple types, stamps and reply numbers; which days there are.
+#![tactic(auto)]
+
 mod day;
 
 ghost use Rattle.std.specs.Prelude.{◌&&◌, ◌||◌, ◌≡◌, ◌≤◌, length};

@@ -1,4 +1,6 @@
 // Whether a listed field of a segment is required. Inner: the callers hold the table's rule, and that the segment has the name of its number.
+#![tactic(auto)]
+
 ghost use Rattle.std.specs.Prelude.{◌≡◌};
 ghost use Rattle.codes.specs.Inner.{IsField, rule_at};
 ghost use Rattle.profile.specs.Table.{C};

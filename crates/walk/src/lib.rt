@@ -1,6 +1,8 @@
 // The readers of a message's listed segments. Group, observation and note readers call one another, and with each call fewer segments
 // remain. They carry no counts and answer only where they stopped, so that a call costs little: the verdict is made of that once, at the end.
 // Inner: the callers hold the table's rule, where the segment stands and that it may stand there.
+#![tactic(auto)]
+
 ghost use Rattle.std.specs.Prelude.{◌≡◌};
 ghost use Rattle.text.specs.Bytes.{pick};
 ghost use Rattle.profile.specs.Numbers.{table_of};
@@ -27,7 +29,7 @@ pub const FIELD_BROKEN: u64 = 3;
 
 // Where reading stopped, and why: at the segment that stands from start up to end.
 // Why is a whole word, since each reader hands this on: a byte beside two words would be handed on piece by piece.
-#[derive(Drop)]
+#[derive(Clone, Copy)]
 pub struct Halt {
     pub why: u64,
     pub start: usize,
@@ -45,7 +47,7 @@ fn end_behind(number: u16) -> u64
 }
 
 // What comes of reading a segment: reading stops there, or the next listed segment is to be read.
-#[derive(Drop)]
+#[derive(Clone, Copy)]
 enum Onward {
     Halt(Halt),
     Segment {

@@ -1,4 +1,6 @@
 // The words of a line, and the numbers among them. A word begins at `at`; where the line has no more words, that is after its end.
+#![tactic(auto)]
+
 mod ends;
 mod numbers;
 
@@ -6,7 +8,7 @@ pub use ends::seek;
 pub use numbers::{Number, read_number};
 
 // A number that was read, and where the next word begins.
-#[derive(Drop)]
+#[derive(Clone, Copy)]
 pub struct Numeral {
     pub is_good: bool,
     pub value: u64,

@@ -1,7 +1,7 @@
 // Numbers as words write them.
 
 // A number that was read; its value counts only where it is good.
-#[derive(Drop)]
+#[derive(Clone, Copy)]
 pub struct Number {
     pub is_good: bool,
     pub value: u64,

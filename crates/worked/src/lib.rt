@@ -1,1 +1,2 @@
 // 01's worked messages and other hard cases, tried on the definitions.
+#![tactic(auto)]

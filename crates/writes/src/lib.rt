@@ -1,5 +1,7 @@
 // The calls that write to lent memory: each reads its words, the strings into memory of its own, asks its entry, and tells the answer with
 // the buffer or the book as it is then.
+#![tactic(auto)]
+
 use strings::{memory, next_string};
 use telling::{tell_filed, tell_no_call, tell_written};
 use words::{is_over, next_number};
