@@ -1,10 +1,7 @@
 -- `all_allowed`: what was seen and what is left decide together.
 use Rattle.text.proofs.Lists.{every-seen, every-end, and-true}
 use borrow.Author.Rules.{rules}
-use Prim.Native.Nat.{◌≤◌, ◌-◌}
-use mathlib.Core.Path.{◌≡◌, sym, ◌∙◌}
-use mathlib.Core.Bool.{◌&&◌}
-use lib.ListN.{length, drop}
+use mathlib.Core.Path.{sym, ◌∙◌}
 use Rattle.text.specs.Bytes.{every}
 use Rattle.frame.specs.Frame.{allowed}
 use Rattle.frame.proofs.checks.all_allowed.Goals as goal
@@ -16,6 +13,4 @@ loop-i-preserved c = (
 )
 
 pub returns : goal.returns
-returns c = sym (and-true c.loop-i.ok) ∙ (rw (every-end allowed c.args.m.now c.loop-i.i c.loop-i-test.false) ⟦at⟧ c.loop-i.invariant.1)
-
--- XXX bare place at
+returns c = sym (and-true c.loop-i.ok) ∙ (rw (every-end allowed c.args.m.now c.loop-i.i c.loop-i-test.false) at c.loop-i.invariant.1)

@@ -1,12 +1,5 @@
 -- `check_segments`: the three tests, told from where the walk stands.
-use borrow.Author.Tests.{not-true, not-false}
-use borrow.Author.Rules.{rules}
-use Prim.Native.Nat.{◌-◌}
-use mathlib.Core.Path.{◌≡◌}
-use native.Mathlib.Omega.{arith}
-use lib.ListN.{length}
-use Rattle.text.specs.Marks.{marks_of}
-use Rattle.frame.proofs.Walk.{Walked, walked_first, walked_bad, walked_on, walked_second, walked_many, walked_good}
+use Rattle.frame.proofs.Walk.{walked_bad, walked_on, walked_second, walked_many, walked_good}
 use Rattle.frame.proofs.checks.check_segments.Goals as goal
 
 pub returns-then-not-is_segment : goal.returns-then-not-is_segment

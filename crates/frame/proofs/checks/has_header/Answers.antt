@@ -1,7 +1,6 @@
 use Rattle.text.specs.Marks.{marks_of}
 use Rattle.frame.proofs.Names.{header-short}
 use mathlib.Core.Path.{sym}
-use borrow.Author.Rules.{rules}
 use Rattle.frame.proofs.checks.has_header.Goals as goal
 
 -- src/checks.rt:45:9

@@ -1,7 +1,6 @@
 -- `has_name`: the first three bytes are compared.
 use mathlib.Core.Path.{sym}
 use Rattle.frame.proofs.Names.{named-short, named-bytes}
-use borrow.Author.Rules.{rules}
 use Rattle.frame.proofs.segment.has_name.Goals as goal
 
 pub returns-then-s-lt3 : goal.returns-then-s-lt3
