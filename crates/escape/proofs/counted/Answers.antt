@@ -1,15 +1,11 @@
 -- `counted`: each step counts one byte, or meets a bad escape.
-use Prim.Native.Nat.{◌+◌, ◌-◌}
+use Prim.Native.Nat.{◌+◌}
 use mathlib.Core.Path.{sym, ◌∙◌}
 use native.Mathlib.Omega.{arith}
 use borrow.Author.Rules.{rules}
-use borrow.Author.Tests.{not-true, not-false}
-use lib.ListN.{length, get_or}
+use lib.ListN.{get_or}
 use Rattle.escape.specs.Step.{meant}
-use Rattle.escape.proofs.Escapes.{Goes, goes_byte, goes_escape, Counted, counted_none, counted-more, counted-bad, counted-all}
-use Rattle.escape.proofs.counted.Reads as reads
-use Rattle.escape.proofs.counted.Lts as lts
-use Rattle.escape.proofs.is_escape.Reads as is-escape-reads
+use Rattle.escape.proofs.Escapes.{Goes, goes_byte, goes_escape, counted-more, counted-bad, counted-all}
 use Rattle.escape.proofs.counted.Goals as goal
 
 pub returns-then-not-is_escape : goal.returns-then-not-is_escape

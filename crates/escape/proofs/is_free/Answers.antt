@@ -1,10 +1,8 @@
 -- `is_free`: what was seen and what is left decide together.
 use Rattle.text.proofs.Lists.{every-seen, every-end, and-true}
 use borrow.Author.Rules.{rules}
-use Prim.Native.Nat.{◌≤◌, ◌-◌}
-use mathlib.Core.Path.{◌≡◌, refl, sym, ◌∙◌}
-use mathlib.Core.Bool.{◌&&◌}
-use lib.ListN.{length, drop, get_or}
+use mathlib.Core.Path.{refl, sym, ◌∙◌}
+use lib.ListN.{get_or}
 use Rattle.text.specs.Bytes.{every}
 use Rattle.escape.specs.Step.{is_other}
 use Rattle.escape.proofs.is_free.Goals as goal
@@ -16,6 +14,4 @@ loop-i-preserved c = (
 )
 
 pub returns : goal.returns
-returns c = sym (and-true c.loop-i.ok) ∙ (rw (every-end (is_other c.args.mark) c.args.t.now c.loop-i.i c.loop-i-test.false) ⟦at⟧ c.loop-i.invariant.1)
-
--- XXX bare place at
+returns c = sym (and-true c.loop-i.ok) ∙ (rw (every-end (is_other c.args.mark) c.args.t.now c.loop-i.i c.loop-i-test.false) at c.loop-i.invariant.1)

@@ -1,9 +1,8 @@
 -- `is_free`: what was seen and what is left decide together.
-use Rattle.text.proofs.Lists.{every-seen, every-end, and-true}
 use Prim.Native.Nat.{◌≤◌, ◌-◌}
-use mathlib.Core.Path.{◌≡◌, refl, sym, ◌∙◌}
+use mathlib.Core.Path.{◌≡◌}
 use mathlib.Core.Bool.{◌&&◌}
-use lib.ListN.{length, drop, get_or}
+use lib.ListN.{length, drop}
 use Rattle.text.specs.Bytes.{every}
 use Rattle.escape.specs.Step.{is_other}
 use Rattle.escape.proofs.is_free.Given as goal

@@ -1,13 +1,10 @@
 -- `put_resolved`: each step writes one byte.
-use Prim.Native.Nat.{◌+◌, ◌-◌}
+use Prim.Native.Nat.{◌+◌}
 use native.Mathlib.Omega.{arith}
 use borrow.Author.Rules.{rules}
-use lib.ListN.{length, get_or}
+use lib.ListN.{get_or}
 use Rattle.escape.specs.Step.{meant}
-use Rattle.escape.proofs.Escapes.{Goes, goes_byte, goes_good, Filled, filled-first, filled-room, filled_more, filled-all}
-use Rattle.escape.proofs.put_resolved.Reads as reads
-use Rattle.escape.proofs.put_resolved.Lts as lts
-use Rattle.escape.proofs.meant.Reads as meant-reads
+use Rattle.escape.proofs.Escapes.{Goes, goes_byte, goes_good, filled-room, filled_more, filled-all}
 use Rattle.escape.proofs.put_resolved.Goals as goal
 
 pub bounds-t-i-then-b-q : goal.bounds-t-i-then-b-q

@@ -1,12 +1,7 @@
 -- `put_resolved`: each step writes one byte.
-use Prim.Native.Nat.{◌+◌, ◌-◌}
-use native.Mathlib.Omega.{arith}
-use lib.ListN.{length, get_or}
-use Rattle.escape.specs.Step.{meant}
-use Rattle.escape.proofs.Escapes.{Goes, goes_byte, goes_good, Filled, filled-first, filled-room, filled_more, filled-all}
-use Rattle.escape.proofs.put_resolved.Reads as reads
-use Rattle.escape.proofs.put_resolved.Lts as lts
-use Rattle.escape.proofs.meant.Reads as meant-reads
+use Prim.Native.Nat.{◌-◌}
+use lib.ListN.{length}
+use Rattle.escape.proofs.Escapes.{Filled}
 use Rattle.escape.proofs.put_resolved.Given as goal
 
 abbrev pub invariant-loop-i : goal.invariant-loop-i

@@ -1,6 +1,5 @@
 -- `resolved_len`: where no \ is, a text is as long as it is written.
 use mathlib.Core.Path.{sym, ◌∙◌}
-use borrow.Author.Rules.{rules}
 use Rattle.escape.proofs.Escapes.{counted_free}
 use Rattle.escape.proofs.resolved_len.Goals as goal
 
