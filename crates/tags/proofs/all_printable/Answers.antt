@@ -1,10 +1,7 @@
 -- `all_printable`: what was seen and what is left decide together.
 use Rattle.text.proofs.Lists.{every-seen, every-end, and-true}
 use borrow.Author.Rules.{rules}
-use Prim.Native.Nat.{◌≤◌, ◌-◌}
-use mathlib.Core.Path.{◌≡◌, sym, ◌∙◌}
-use mathlib.Core.Bool.{◌&&◌}
-use lib.ListN.{length, drop}
+use mathlib.Core.Path.{sym, ◌∙◌}
 use Rattle.text.specs.Bytes.{every, printable}
 use Rattle.tags.proofs.all_printable.Goals as goal
 
@@ -15,6 +12,4 @@ loop-i-preserved c = (
 )
 
 pub returns : goal.returns
-returns c = sym (and-true c.loop-i.ok) ∙ (rw (every-end printable c.args.t.now c.loop-i.i c.loop-i-test.false) ⟦at⟧ c.loop-i.invariant.1)
-
--- XXX bare place at
+returns c = sym (and-true c.loop-i.ok) ∙ (rw (every-end printable c.args.t.now c.loop-i.i c.loop-i-test.false) at c.loop-i.invariant.1)

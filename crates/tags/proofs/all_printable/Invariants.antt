@@ -1,7 +1,6 @@
 -- `all_printable`: what was seen and what is left decide together.
-use Rattle.text.proofs.Lists.{every-seen, every-end, and-true}
 use Prim.Native.Nat.{◌≤◌, ◌-◌}
-use mathlib.Core.Path.{◌≡◌, sym, ◌∙◌}
+use mathlib.Core.Path.{◌≡◌}
 use mathlib.Core.Bool.{◌&&◌}
 use lib.ListN.{length, drop}
 use Rattle.text.specs.Bytes.{every, printable}

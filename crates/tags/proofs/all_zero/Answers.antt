@@ -1,10 +1,8 @@
 -- `all_zero`: what was seen and what is left decide together.
 use Rattle.text.proofs.Lists.{every-seen, every-end, and-true}
 use borrow.Author.Rules.{rules}
-use Prim.Native.Nat.{◌≤◌, ◌-◌}
-use mathlib.Core.Path.{◌≡◌, refl, sym, ◌∙◌}
-use mathlib.Core.Bool.{◌&&◌}
-use lib.ListN.{length, drop, get_or}
+use mathlib.Core.Path.{refl, sym, ◌∙◌}
+use lib.ListN.{get_or}
 use lib.Dec.{eqb}
 use Rattle.text.specs.Bytes.{every}
 use Rattle.tags.specs.Fields.{is_zero}
@@ -17,6 +15,4 @@ loop-i-preserved c = (
 )
 
 pub returns : goal.returns
-returns c = sym (and-true c.loop-i.ok) ∙ (rw (every-end is_zero c.args.t.now c.loop-i.i c.loop-i-test.false) ⟦at⟧ c.loop-i.invariant.1)
-
--- XXX bare place at
+returns c = sym (and-true c.loop-i.ok) ∙ (rw (every-end is_zero c.args.t.now c.loop-i.i c.loop-i-test.false) at c.loop-i.invariant.1)

@@ -1,10 +1,8 @@
 -- `all_zero`: what was seen and what is left decide together.
-use Rattle.text.proofs.Lists.{every-seen, every-end, and-true}
 use Prim.Native.Nat.{◌≤◌, ◌-◌}
-use mathlib.Core.Path.{◌≡◌, refl, sym, ◌∙◌}
+use mathlib.Core.Path.{◌≡◌}
 use mathlib.Core.Bool.{◌&&◌}
-use lib.ListN.{length, drop, get_or}
-use lib.Dec.{eqb}
+use lib.ListN.{length, drop}
 use Rattle.text.specs.Bytes.{every}
 use Rattle.tags.specs.Fields.{is_zero}
 use Rattle.tags.proofs.all_zero.Given as goal

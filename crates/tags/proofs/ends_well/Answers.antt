@@ -1,6 +1,5 @@
 -- `ends_well`: the tests are those of the definition, in its order.
 use Rattle.tags.proofs.SlipField.{ends_as}
-use borrow.Author.Rules.{rules}
 use Rattle.tags.proofs.ends_well.Goals as goal
 
 pub returns : goal.returns
