@@ -6,7 +6,7 @@ ghost use Rattle.text.specs.Puts.{Puts};
 ghost use Rattle.profile.specs.Profile.{profile01};
 ghost use Rattle.slip.specs.Slot.{slot_size};
 ghost use Rattle.slip.specs.Book.{file};
-ghost use Rattle.hex.specs.Hex.{slip_lines};
+ghost use Rattle.hexes.specs.Hex.{slip_lines};
 
 use asked::Asked;
 use libc::{STDIN_FILENO, STDOUT_FILENO};
@@ -23,7 +23,7 @@ fn tell(m: &[u8], group: u64, out: &mut [u8]) -> usize
     let mut book = [0u8; SLOT_SIZE];
     match slip::file(m, group, 0, &mut book) {
         Filed::Refused(r) => line::refused_line(r, out),
-        Filed::Slip => hex::hex_lines(&book, out),
+        Filed::Slip => hexes::hex_lines(&book, out),
     }
 }
 
