@@ -8,8 +8,12 @@ ghost use Rattle.line.specs.Line.{answer_text};
 ghost use Rattle.line.specs.Inner.{look_buffer};
 ghost use Rattle.line.specs.Line.{Shows};
 
-use libc::{STDIN_FILENO, STDOUT_FILENO};
+use asked::{argument, argument_count};
+use input::{MESSAGE_ROOM, read_full};
 use reply::limits;
+use std::env::Env;
+use std::io;
+use std::io::Read;
 use text::Written;
 
 // A stamp and a reply number are shorter.
@@ -27,24 +31,22 @@ fn tell(m: &[u8], stamp: &[u8], number: &[u8], out: &mut [u8]) -> usize
 }
 
 // An argument longer than its buffer is given as no bytes: a bad stamp, a bad reply number.
-fn answer() {
+fn answer<R: Env + Print>(rt: &R, input: &mut impl Read) -> io::Result<()> {
     let mut stamp = [0u8; LONGEST_ARGUMENT];
-    let s = os::arg(1, &mut stamp);
+    let s = argument(rt, 1, &mut stamp);
     let mut number = [0u8; LONGEST_ARGUMENT];
-    let k = os::arg(2, &mut number);
-    // one byte more than the longest message, so that a longer one is seen to be too long
-    let mut message = io::large_buffer();
-    let n = io::read_full(STDIN_FILENO, &mut message);
+    let k = argument(rt, 2, &mut number);
+    let mut message = [0u8; MESSAGE_ROOM];
+    let n = read_full(input, &mut message)?;
     // room for every reply
     let mut out = [0u8; limits::LONGEST_REPLY];
     let end = tell(&message[..n], &stamp[..s], &number[..k], &mut out);
-    io::write_all(STDOUT_FILENO, &out[0..end]);
+    rt.write_all(&out[..end])
 }
 
-fn main() {
-    if os::arg_count() != 3 {
-        io::write_all(STDOUT_FILENO, b"usage: answer STAMP NUMBER < MESSAGE\n");
-        return;
+fn main(rt: HostRuntime) -> io::Result<()> {
+    if argument_count(&rt) != 3 {
+        return println!(rt; "usage: answer STAMP NUMBER < MESSAGE");
     }
-    answer();
+    answer(&rt, &mut rt.stdin())
 }

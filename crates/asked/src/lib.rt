@@ -1,10 +1,11 @@
-// The number that a program is asked for, as an argument writes it.
+// What a program is asked for: its arguments, and the number that one of them writes.
 #![tactic(auto)]
 
 ghost use Rattle.std.specs.Prelude.{◌+◌, ◌*◌, ◌-◌, ◌≤◌, ◌≡◌, length};
 ghost use Rattle.text.specs.Bytes.{byte};
 ghost use Rattle.asked.specs.Asked.{fitting, asked};
 
+use std::env::{Env, FillError};
 use text::is_digit;
 
 // Every number above 65,535 is no place, so one that does not fit is given as the largest: the answer is the same.
@@ -55,9 +56,26 @@ fn longest_word() -> [u8; 131072]
     [0; 131072]
 }
 
+// How many arguments the program was started with, its own name among them.
+pub fn argument_count(rt: &impl Env) -> usize {
+    for i in 0..usize::MAX {
+        if let Err(FillError::NotPresent) = rt.arg(i, &mut []) {
+            return i;
+        }
+    }
+    usize::MAX
+}
+
+// Puts the program's argument i to the front of `out`, and answers how many bytes it has: none where it is missing or longer than `out`.
+pub fn argument(rt: &impl Env, i: usize, out: &mut [u8]) -> usize
+    ensures { result ≤ length out.new }
+{
+    rt.arg(i, out).unwrap_or(0)
+}
+
 // The number that the program's argument i writes.
-pub fn number_at(i: usize) -> Asked {
+pub fn number_at(rt: &impl Env, i: usize) -> Asked {
     let mut word = longest_word();
-    let n = os::arg(i, &mut word);
+    let n = argument(rt, i, &mut word);
     asked_number(&word[..n])
 }

@@ -6,8 +6,9 @@ ghost use Rattle.text.specs.Puts.{Puts};
 ghost use Rattle.profile.specs.Profile.{profile01};
 ghost use Rattle.chart.specs.Chart.{page};
 
-use asked::Asked;
-use libc::STDOUT_FILENO;
+use asked::{Asked, argument, argument_count, number_at};
+use std::env::Env;
+use std::io;
 
 // Room for every line.
 const PAGE_SIZE: usize = 512;
@@ -25,52 +26,51 @@ fn tell(name: &[u8], field: u64, component: u64, out: &mut [u8]) -> usize
     end
 }
 
-fn show(name: &[u8], field: u64, component: u64) {
+fn show(rt: &impl Print, name: &[u8], field: u64, component: u64) -> io::Result<()> {
     let mut out = [0u8; PAGE_SIZE];
     let end = tell(name, field, component, &mut out);
-    io::write_all(STDOUT_FILENO, &out[0..end]);
+    rt.write_all(&out[..end])
 }
 
 // The number that argument i writes; 0, which no field and no component has, where it writes none.
-fn number_or_none(i: usize) -> u64 {
-    match asked::number_at(i) {
+fn number_or_none(rt: &impl Env, i: usize) -> u64 {
+    match number_at(rt, i) {
         Asked::Bad => 0,
         Asked::Number(n) => n,
     }
 }
 
 // Shows the lists of the place that the arguments name, and answers whether they name one. A name of more than three bytes comes as no bytes.
-fn shows_place(count: usize) -> bool {
+fn shows_place<R: Env + Print>(rt: &R, count: usize) -> io::Result<bool> {
     let mut name = [0u8; 3];
-    let n = os::arg(1, &mut name);
-    let field = number_or_none(2);
+    let n = argument(rt, 1, &mut name);
+    let field = number_or_none(rt, 2);
     let mut component = 0;
     if count == 4 {
-        component = number_or_none(3);
+        component = number_or_none(rt, 3);
         if component == 0 {
-            return false;
+            return Ok(false);
         }
     }
     if (n != 3) | (field == 0) {
-        return false;
+        return Ok(false);
     }
     if !frame::is_name(name[0], name[1], name[2]) {
-        return false;
+        return Ok(false);
     }
-    show(&name, field, component);
-    true
+    show(rt, &name, field, component)?;
+    Ok(true)
 }
 
-fn main() {
-    let count = os::arg_count();
+fn main(rt: HostRuntime) -> io::Result<()> {
+    let count = argument_count(&rt);
     if count == 1 {
-        show(b"", 0, 0);
-        return;
+        return show(&rt, b"", 0, 0);
     }
     if (count == 3) | (count == 4) {
-        if shows_place(count) {
-            return;
+        if shows_place(&rt, count)? {
+            return Ok(());
         }
     }
-    io::write_all(STDOUT_FILENO, b"usage: codes [NAME FIELD [COMPONENT]]\n");
+    println!(rt; "usage: codes [NAME FIELD [COMPONENT]]")
 }

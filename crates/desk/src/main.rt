@@ -8,8 +8,9 @@ ghost use Rattle.reader.specs.Fault.{judge};
 ghost use Rattle.line.specs.Line.{desk_line, as_line};
 ghost use Rattle.line.specs.Inner.{desk_buffer};
 
-use libc::{STDIN_FILENO, STDOUT_FILENO};
+use input::{MESSAGE_ROOM, read_full};
 use line::sizes;
+use std::io;
 
 // The line that tells how a message is judged.
 fn tell(m: &[u8], out: &mut [u8]) -> usize
@@ -19,11 +20,10 @@ fn tell(m: &[u8], out: &mut [u8]) -> usize
     line::desk_line(reader::judge(m), out)
 }
 
-fn main() {
-    // one byte more than the longest message, so that a longer one is seen to be too long
-    let mut message = io::large_buffer();
-    let n = io::read_full(STDIN_FILENO, &mut message);
+fn main(rt: HostRuntime) -> io::Result<()> {
+    let mut message = [0u8; MESSAGE_ROOM];
+    let n = read_full(&mut rt.stdin(), &mut message)?;
     let mut out = [0u8; sizes::DESK_BUFFER];
     let end = tell(&message[..n], &mut out);
-    io::write_all(STDOUT_FILENO, &out[0..end]);
+    rt.write_all(&out[..end])
 }

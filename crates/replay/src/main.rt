@@ -6,10 +6,17 @@ mod calls;
 mod turns;
 
 use input::Window;
+use std::io;
+use std::io::Read;
 use turns::turn;
 
-// A proved loop has to end, and nothing says that the input does: so it counts its turns down, from a number that no run uses up.
-fn run(window: &mut [u8], out: &mut [u8]) {
+// A proved loop has to end, and nothing says that the input does: so it counts its turns, up to a number that no run uses up.
+fn run<R: Read>(
+    rt: &impl Print,
+    input: &mut R,
+    window: &mut [u8],
+    out: &mut [u8],
+) -> io::Result<()> {
     let mut w = Window {
         from: 0,
         seen: 0,
@@ -17,25 +24,19 @@ fn run(window: &mut [u8], out: &mut [u8]) {
         is_long: false,
         is_open: true,
     };
-    let mut turns = u64::MAX;
-    while turns > 0 {
-        w = turn(window, w, out);
+    for _ in 0..u64::MAX {
+        w = turn(rt, input, window, w, out)?;
         if !w.is_open {
-            return;
+            break;
         }
-        turns -= 1;
     }
+    Ok(())
 }
 
-// The arrays as slices. Lent as arrays first, their lengths are told by their types; a million bytes are too many for the prover to count.
-fn run_in(window: &mut [u8; 1048577], out: &mut [u8; 393344]) {
-    run(window, out);
-}
-
-fn main() {
+fn main(rt: HostRuntime) -> io::Result<()> {
     // the longest line and its line feed
     let mut window = [0u8; 1048577];
     // three bytes for each of the longest string, and the words before it
     let mut out = [0u8; 393344];
-    run_in(&mut window, &mut out);
+    run(&rt, &mut rt.stdin(), &mut window, &mut out)
 }

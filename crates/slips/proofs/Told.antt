@@ -9,7 +9,7 @@ use Rattle.text.specs.Answer.{Answer, refused, given}
 use Rattle.text.specs.declared.refusal.Refusal.{Refusal}
 use Rattle.text.proofs.Answer.{told-refused}
 use Rattle.line.specs.Line.{as_line, refused_line}
-use Rattle.hex.specs.Hex.{hex_lines, slip_lines}
+use Rattle.hexes.specs.Hex.{hex_lines, slip_lines}
 use Rattle.slip.specs.Slot.{slot_size}
 use Rattle.slip.specs.Book.{book_after}
 use Rattle.slip.specs.Told.{done}

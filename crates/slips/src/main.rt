@@ -6,11 +6,13 @@ ghost use Rattle.text.specs.Puts.{Puts};
 ghost use Rattle.profile.specs.Profile.{profile01};
 ghost use Rattle.slip.specs.Slot.{slot_size};
 ghost use Rattle.slip.specs.Book.{file};
-ghost use Rattle.hex.specs.Hex.{slip_lines};
+ghost use Rattle.hexes.specs.Hex.{slip_lines};
 
-use asked::Asked;
-use libc::{STDIN_FILENO, STDOUT_FILENO};
+use asked::{Asked, argument_count, number_at};
+use input::{MESSAGE_ROOM, read_full};
 use slip::{Filed, SLOT_SIZE};
+use std::io;
+use std::io::Read;
 
 // A byte of the slip is printed as two digits and what stands after them.
 const LINES_SIZE: usize = 3 * SLOT_SIZE;
@@ -23,25 +25,23 @@ fn tell(m: &[u8], group: u64, out: &mut [u8]) -> usize
     let mut book = [0u8; SLOT_SIZE];
     match slip::file(m, group, 0, &mut book) {
         Filed::Refused(r) => line::refused_line(r, out),
-        Filed::Slip => hex::hex_lines(&book, out),
+        Filed::Slip => hexes::hex_lines(&book, out),
     }
 }
 
-fn show(group: u64) {
-    // one byte more than the longest message, so that a longer one is seen to be too long
-    let mut message = io::large_buffer();
-    let n = io::read_full(STDIN_FILENO, &mut message);
+fn show(rt: &impl Print, input: &mut impl Read, group: u64) -> io::Result<()> {
+    let mut message = [0u8; MESSAGE_ROOM];
+    let n = read_full(input, &mut message)?;
     let mut out = [0u8; LINES_SIZE];
     let end = tell(&message[..n], group, &mut out);
-    io::write_all(STDOUT_FILENO, &out[0..end]);
+    rt.write_all(&out[..end])
 }
 
-fn main() {
-    if os::arg_count() == 2 {
-        if let Asked::Number(group) = asked::number_at(1) {
-            show(group);
-            return;
-        }
+fn main(rt: HostRuntime) -> io::Result<()> {
+    if argument_count(&rt) == 2
+        && let Asked::Number(group) = number_at(&rt, 1)
+    {
+        return show(&rt, &mut rt.stdin(), group);
     }
-    io::write_all(STDOUT_FILENO, b"usage: slips GROUP < MESSAGE\n");
+    println!(rt; "usage: slips GROUP < MESSAGE")
 }

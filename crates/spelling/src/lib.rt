@@ -25,7 +25,7 @@ pub fn put(out: &mut [u8], at: usize, t: &[u8]) -> usize {
 
 pub fn put_decimal(out: &mut [u8], at: usize, n: u64) -> usize {
     let mut digits = [0u8; 20];
-    let k = io::decimal(n, &mut digits);
+    let k = text::put_decimal(&mut digits, 0, n);
     put(out, at, &digits[..k])
 }
 

@@ -1,8 +1,8 @@
 -- `gap`: a line end after each sixteenth byte.
 use Prim.Native.Nat.{◌%◌}
 use borrow.Author.Tests.{eq-eqb, ne_eqb}
-use Rattle.hex.proofs.gap.Statement.{statement}
-use Rattle.hex.proofs.gap.Tie as tie
+use Rattle.hexes.proofs.gap.Statement.{statement}
+use Rattle.hexes.proofs.gap.Tie as tie
 
 returns : tie.Need-returns
 returns c = rw (eq-eqb (c.before.args.i % 16) 15 c.if1.true)

@@ -5,11 +5,11 @@ use native.Mathlib.Omega.{arith}
 use lib.ListN.{length, take}
 use lib.Seq.{take_all}
 use Rattle.text.specs.Puts.{Puts}
-use Rattle.hex.specs.Hex.{hex_from}
-use Rattle.hex.proofs.HexLines.{hex_none, hex_on}
+use Rattle.hexes.specs.Hex.{hex_from}
+use Rattle.hexes.proofs.HexLines.{hex_none, hex_on}
 use borrow.Author.Rules.{rules}
-use Rattle.hex.proofs.hex_lines.Statement.{statement}
-use Rattle.hex.proofs.hex_lines.Tie as tie
+use Rattle.hexes.proofs.hex_lines.Statement.{statement}
+use Rattle.hexes.proofs.hex_lines.Tie as tie
 
 abbrev invariant-loop : tie.invariant-loop
 invariant-loop t out₀ at₀ i₀ out at i =

@@ -1,8 +1,8 @@
 -- `hex_digit`: 0 to 9, then A to F.
 use borrow.Author.Rules.{rules}
 use borrow.Author.Tests.{lt-ltb, le-ltb}
-use Rattle.hex.proofs.hex_digit.Statement.{statement}
-use Rattle.hex.proofs.hex_digit.Tie as tie
+use Rattle.hexes.proofs.hex_digit.Statement.{statement}
+use Rattle.hexes.proofs.hex_digit.Tie as tie
 
 returns : tie.Need-returns
 returns c = rw (lt-ltb c.before.args.n 10 c.if1.true)

@@ -3,7 +3,7 @@
 
 ghost use Rattle.std.specs.Prelude.{◌≡◌, ◌*◌, ◌≤◌, ◌<◌, length};
 ghost use Rattle.text.specs.Puts.{Puts};
-ghost use Rattle.hex.specs.Hex.{hex_digit, behind, hex_lines};
+ghost use Rattle.hexes.specs.Hex.{hex_digit, behind, hex_lines};
 
 use text::put;
 

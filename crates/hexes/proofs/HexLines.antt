@@ -9,7 +9,7 @@ use lib.ListN.{length, get_or, take}
 use Rattle.text.specs.Bytes.{Text}
 use Rattle.text.specs.Puts.{Puts}
 use Rattle.text.proofs.Puts.{puts_none, puts-both}
-use Rattle.hex.specs.Hex.{hex_digit, behind, hex_byte, hex_from}
+use Rattle.hexes.specs.Hex.{hex_digit, behind, hex_byte, hex_from}
 
 -- one byte more
 from_more : (k : ℕ) (t : Text) (i : ℕ) → i < length t → hex_from k (take (suc i) t) ≡ hex_from k (take i t) ++ hex_byte (k + i) (get_or t i 0)
