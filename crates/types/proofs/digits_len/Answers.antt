@@ -1,11 +1,7 @@
 -- `digits_len`: the digits passed and those to come are the digits.
-use Prim.Native.Nat.{◌+◌, ◌-◌, ◌≤◌}
-use mathlib.Core.Path.{◌≡◌, sym, ◌∙◌}
+use mathlib.Core.Path.{sym, ◌∙◌}
 use native.Mathlib.Omega.{arith}
 use borrow.Author.Rules.{rules}
-use borrow.Author.Tests.{not-true, not-false}
-use lib.ListN.{length, drop}
-use Rattle.types.specs.Types.{digits}
 use Rattle.types.proofs.TypeLaws.{digits_more, digits_stop, digits-end}
 use Rattle.types.proofs.digits_len.Goals as goal
 

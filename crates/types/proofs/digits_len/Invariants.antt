@@ -1,11 +1,8 @@
 -- `digits_len`: the digits passed and those to come are the digits.
 use Prim.Native.Nat.{◌+◌, ◌-◌, ◌≤◌}
-use mathlib.Core.Path.{◌≡◌, sym, ◌∙◌}
-use native.Mathlib.Omega.{arith}
-use borrow.Author.Tests.{not-true, not-false}
+use mathlib.Core.Path.{◌≡◌}
 use lib.ListN.{length, drop}
 use Rattle.types.specs.Types.{digits}
-use Rattle.types.proofs.TypeLaws.{digits_more, digits_stop, digits-end}
 use Rattle.types.proofs.digits_len.Given as goal
 
 abbrev pub invariant-loop-i : goal.invariant-loop-i

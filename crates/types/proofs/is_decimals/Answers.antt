@@ -1,5 +1,4 @@
 -- `is_decimals`: after the point the digits decide.
-use borrow.Author.Rules.{rules}
 use Rattle.types.proofs.TypeLaws.{digits-some, digits-all}
 use Rattle.types.proofs.is_decimals.Goals as goal
 

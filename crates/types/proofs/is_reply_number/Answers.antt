@@ -1,10 +1,8 @@
 -- `is_reply_number`: what is left of the text decides.
-use Prim.Native.Nat.{◌-◌, ◌≤◌}
 use mathlib.Core.Path.{◌≡◌, sym, ap, ◌∙◌}
 use mathlib.Core.Bool.{Bool, true, false, ◌&&◌}
 use borrow.Author.Rules.{rules}
-use borrow.Author.Tests.{not-true, not-false}
-use lib.ListN.{length, drop}
+use lib.ListN.{length}
 use Rattle.text.specs.Bytes.{Text, capital_or_digit, every}
 use Rattle.types.specs.Types.{is_reply_number}
 use Rattle.text.specs.Ranges.{◌to◌, is_within}

@@ -1,13 +1,8 @@
 -- `is_reply_number`: what is left of the text decides.
 use Prim.Native.Nat.{◌-◌, ◌≤◌}
-use mathlib.Core.Path.{◌≡◌, sym, ap, ◌∙◌}
-use mathlib.Core.Bool.{Bool, true, false, ◌&&◌}
-use borrow.Author.Tests.{not-true, not-false}
+use mathlib.Core.Path.{◌≡◌}
 use lib.ListN.{length, drop}
-use Rattle.text.specs.Bytes.{Text, capital_or_digit, every}
-use Rattle.types.specs.Types.{is_reply_number}
-use Rattle.text.specs.Ranges.{◌to◌, is_within}
-use Rattle.text.proofs.Lists.{every-step, every-end}
+use Rattle.text.specs.Bytes.{capital_or_digit, every}
 use Rattle.types.proofs.is_reply_number.Given as goal
 
 abbrev pub invariant-loop-i : goal.invariant-loop-i

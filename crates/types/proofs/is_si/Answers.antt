@@ -1,6 +1,5 @@
 -- `is_si`: as many digits as bytes.
 use mathlib.Core.Path.{ap, ◌∙◌}
-use borrow.Author.Rules.{rules}
 use lib.Dec.{eqb}
 use lib.ListN.{length}
 use Rattle.types.proofs.TypeLaws.{digits-all}

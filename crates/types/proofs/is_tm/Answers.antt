@@ -1,7 +1,6 @@
 -- `is_tm`: the twos, and what follows them.
 use mathlib.Core.Path.{sym, ◌∙◌}
 use borrow.Author.Tests.{le-leb, lt-leb}
-use borrow.Author.Rules.{rules}
 use Rattle.text.proofs.Lists.{part-rest}
 use Rattle.types.specs.Inner.{ranges_of}
 use Rattle.types.proofs.TwosLaws.{time_read}

@@ -1,11 +1,10 @@
 -- `is_zone`: sign and length, then the digits and their ranges.
 use mathlib.Core.Path.{◌≡◌, refl, sym, ap, ◌∙◌}
-use mathlib.Core.Bool.{Bool, true, false, ◌&&◌}
+use mathlib.Core.Bool.{Bool, true, ◌&&◌}
 use mathlib.Core.List.{[], ◌∷◌}
 use Prim.Native.Nat.{ℕ}
 use native.Mathlib.Omega.{arith}
-use borrow.Author.Tests.{not-true, not-false, eqb-true}
-use borrow.Author.Rules.{rules}
+use borrow.Author.Tests.{eqb-true}
 use lib.Dec.{eqb}
 use lib.ListN.{length, get_or, drop}
 use Rattle.text.specs.Bytes.{Text, digit, every}
@@ -13,7 +12,6 @@ use Rattle.text.proofs.Tests.{both}
 use Rattle.text.proofs.Lists.{part-rest}
 use Rattle.types.specs.Types.{is_zone, sign, twos, zone}
 use Rattle.types.specs.Inner.{ranges_of, twos_length}
-use Rattle.types.proofs.TypeLaws.{no_bytes}
 use Rattle.types.proofs.TwosLaws.{length-all}
 use Rattle.types.proofs.is_zone.Goals as goal
 

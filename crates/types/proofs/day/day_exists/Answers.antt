@@ -1,6 +1,5 @@
 -- `day_exists`: too short for a day, a day up to the 28th, or by the month.
 use mathlib.Core.Path.{sym}
-use borrow.Author.Rules.{rules}
 use Rattle.types.proofs.DayLaws.{short_day, early_bytes}
 use Rattle.types.proofs.day.day_exists.Goals as goal
 

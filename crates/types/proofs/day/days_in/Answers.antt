@@ -29,7 +29,7 @@ thirty-one year month a b =
     )
 
 pub returns-in-4 : goal.returns-in-4
-returns-in-4 c = thirty c.args.year c.args.month c.in-4.keys2
+returns-in-4 c = thirty c.args.year c.args.month c.in-4.is
 
 pub returns-in_default : goal.returns-in_default
-returns-in_default c = thirty-one c.args.year c.args.month c.in_default.rest.0.1 c.in_default.rest.1
+returns-in_default c = thirty-one c.args.year c.args.month (search rules) (search rules)

@@ -8,15 +8,11 @@ use Rattle.profile.specs.Order.{rising, alone, of_field, guides}
 use Rattle.profile.specs.Profile.{profile01}
 use Rattle.profile.specs.Noted.{noted}
 use Rattle.profile.specs.Fields.{rows}
-use Rattle.profile.proofs.profile.Statement.{statement}
-use Rattle.profile.proofs.profile.Tie as tie
+use Rattle.profile.proofs.profile.Goals as goal
 
-returns : tie.Need-returns
+pub returns : goal.returns
 unfolding flat_map same rows_from types_from segments_from table_of profile01 noted rows rising alone of_field guides every codes_behind are_whole lists_from are_whole_lists
-returns c = (
-  record { rows = refl; types = refl; otherwise = refl; succession = refl; ends = refl },
-  record { rows = record { order = refl; proper = refl; lone = refl }; index = refl; lists = record { inside = refl; lists = record { inside = refl; whole = refl; are = refl } } },
-)
-
-pub profile-spec : {M : Type 1} → statement M
-profile-spec = tie.close (tie.spec returns)
+returns c = record {
+  rows = record { rows = refl; types = refl; otherwise = refl; succession = refl; ends = refl };
+  rule = record { rows = record { order = refl; proper = refl; lone = refl }; index = refl; lists = record { inside = refl; lists = record { inside = refl; whole = refl; are = refl } } };
+}
