@@ -6,8 +6,7 @@ use mathlib.Core.Bool.{Bool, true, false}
 use lib.Dec.{leb, ltb}
 use borrow.Author.Tests.{leb-true, leb-false, lt-ltb, le-ltb}
 use Rattle.slot.specs.Slot.{slot_size, slot_start}
-use Rattle.slot.proofs.no_slot.Statement.{statement}
-use Rattle.slot.proofs.no_slot.Tie as tie
+use Rattle.slot.proofs.no_slot.Goals as goal
 
 -- Why the length is divided: multiplied, the test would say the same of numbers without end, and a product may not fit in 64 bits.
 multiplied-step : (n k : ℕ) (b : Bool) → leb (n / slot_size) k ≡ b → ltb n (slot_start k + slot_size) ≡ b
@@ -17,8 +16,5 @@ multiplied-step n k false e = le-ltb n (slot_start k + slot_size) (omega (arith,
 multiplied : (n k : ℕ) → ltb n (slot_start k + slot_size) ≡ leb (n / slot_size) k
 multiplied n k = multiplied-step n k (leb (n / slot_size) k) refl
 
-returns : tie.Need-returns
+pub returns : goal.returns
 returns c = refl
-
-pub no-slot-spec : {M : Type 1} → statement M
-no-slot-spec = tie.close (tie.spec returns)
