@@ -1,5 +1,4 @@
 -- `seek`: the end of a piece lies in the text.
-use borrow.Author.Rules.{rules}
 use lib.ListN.{drop, length-drop}
 use Rattle.parts.proofs.Reach.{reach_le}
 use native.Mathlib.Omega.{arith}
