@@ -1,12 +1,10 @@
 -- `read_repetition`: whether the repetition is filled and its first broken check are told from where the loop stands.
-use borrow.Author.Rules.{rules}
-use Prim.Native.Nat.{◌+◌, ◌-◌}
+use Prim.Native.Nat.{◌+◌}
 use native.Mathlib.Omega.{arith}
-use mathlib.Core.Logic.{⊎_elim}
 use lib.ListN.{get_or}
 use Rattle.profile.specs.Numbers.{component_column, subcomponent_column}
 use Rattle.cursor.proofs.Moving.{cursor-inside}
-use Rattle.leaves.proofs.LeafByLeaf.{Reading, reading-first, reading-number, reading-reason, reading-missing, reading-broken, reading-judged, reading-passed, reading-none, piece_inside}
+use Rattle.leaves.proofs.LeafByLeaf.{reading-first, reading-number, reading-reason, reading-missing, reading-broken, reading-judged, reading-passed, reading-none, piece_inside}
 use Rattle.leaves.proofs.repetition.read_repetition.Goals as goal
 use Rattle.leaves.proofs.repetition.read_repetition.Goals.{else-found-eq-NOTHING_BROKEN-2, then-found-eq-NOTHING_BROKEN-2}
 
@@ -50,7 +48,7 @@ pub slice_bounds-part-count : goal.slice_bounds-part-count
 slice_bounds-part-count c = (cursor-inside _ _ _ c.advance-cursor.ensures.0).0
 
 pub slice_bounds-part-start : goal.slice_bounds-part-start
-slice_bounds-part-start c = sub_part c
+slice_bounds-part-start c = (cursor-inside _ _ _ c.advance-cursor.ensures.0).0
 
 pub slice_bounds-part-end : goal.slice_bounds-part-end
 slice_bounds-part-end c = (cursor-inside _ _ _ c.advance-cursor.ensures.0).1
@@ -59,13 +57,16 @@ pub slice_bounds-leaf_reason-count : goal.slice_bounds-leaf_reason-count
 slice_bounds-leaf_reason-count c = (piece_inside (get_or c.args.table.now (c.loop-at.at + subcomponent_column) 0) _ _ c.piece-p.ensures).0
 
 pub slice_bounds-leaf_reason-start : goal.slice_bounds-leaf_reason-start
-slice_bounds-leaf_reason-start c = sub-leaf-reason c
+slice_bounds-leaf_reason-start c = (piece_inside (get_or c.args.table.now (c.loop-at.at + subcomponent_column) 0) _ _ c.piece-p.ensures).0
 
 pub slice_bounds-leaf_reason-end : goal.slice_bounds-leaf_reason-end
 slice_bounds-leaf_reason-end c = (piece_inside (get_or c.args.table.now (c.loop-at.at + subcomponent_column) 0) _ _ c.piece-p.ensures).1
 
 pub leaf_reason-requires : goal.leaf_reason-requires
-leaf_reason-requires c = ((omega (arith, c.loop-at.invariant.inside, c.loop-at-test.true), c.requires.codes), reading-reason c.loop-at.invariant c.loop-at-test.true)
+leaf_reason-requires c = record {
+  row_inside = (omega (arith, c.loop-at.invariant.inside, c.loop-at-test.true), c.requires.codes);
+  known_reason = reading-reason c.loop-at.invariant c.loop-at-test.true;
+}
 
 pub overflow_add-at : goal.overflow_add-at
 overflow_add-at c = omega (arith, c.loop-at.invariant.inside, c.loop-at-test.true, c.well_formed)
@@ -74,7 +75,7 @@ pub loop-at-smaller : goal.loop-at-smaller
 loop-at-smaller c = omega (arith, c.loop-at-test.true)
 
 pub loop-at-preserved : goal.loop-at-preserved
-loop-at-preserved c = elim c.if-found-eq-NOTHING_BROKEN-2.branch [ then-found-eq-NOTHING_BROKEN-2 x ↦ rw x.3 (reading-judged c.loop-at.invariant c.loop-at-test.true c.advance-cursor.ensures c.piece-p.ensures x.if-found-eq-NOTHING_BROKEN-2.true x.2.ensures) | else-found-eq-NOTHING_BROKEN-2 x ↦ rw x.1 (reading-passed c.loop-at.invariant c.loop-at-test.true c.advance-cursor.ensures c.piece-p.ensures x.if-found-eq-NOTHING_BROKEN-2.false) ]
+loop-at-preserved c = elim c.if-found-eq-NOTHING_BROKEN-2.branch [ then-found-eq-NOTHING_BROKEN-2 x ↦ rw x.found-is (reading-judged c.loop-at.invariant c.loop-at-test.true c.advance-cursor.ensures c.piece-p.ensures x.if-found-eq-NOTHING_BROKEN-2.true x.leaf_reason.ensures) | else-found-eq-NOTHING_BROKEN-2 x ↦ rw x.found-is (reading-passed c.loop-at.invariant c.loop-at-test.true c.advance-cursor.ensures c.piece-p.ensures x.if-found-eq-NOTHING_BROKEN-2.false) ]
 
 pub returns : goal.returns
 returns c = reading-none c.loop-at.invariant c.loop-at-test.false

@@ -1,11 +1,6 @@
 -- `read_repetition`: whether the repetition is filled and its first broken check are told from where the loop stands.
-use Prim.Native.Nat.{◌+◌, ◌-◌}
-use native.Mathlib.Omega.{arith}
-use mathlib.Core.Logic.{⊎_elim}
-use lib.ListN.{get_or}
-use Rattle.profile.specs.Numbers.{component_column, subcomponent_column}
-use Rattle.cursor.proofs.Moving.{cursor-inside}
-use Rattle.leaves.proofs.LeafByLeaf.{Reading, reading-first, reading-number, reading-reason, reading-missing, reading-broken, reading-judged, reading-passed, reading-none, piece_inside}
+use Prim.Native.Nat.{◌-◌}
+use Rattle.leaves.proofs.LeafByLeaf.{Reading}
 use Rattle.leaves.proofs.repetition.read_repetition.Given as goal
 
 abbrev pub invariant-loop-at : goal.invariant-loop-at
