@@ -80,7 +80,7 @@ fn read_on(m: &[u8], table: &[u16], start: usize, end: usize, number: u16) -> On
 }
 
 // An ORC, which a group follows.
-#[cycle(behind_group_group_note_observation_order)]
+#[cycle(in_group)]
 fn order(m: &[u8], table: &[u16], start: usize, end: usize) -> Halt
     requires { Sound table.now × Here m.now start end ORC }
     ensures { Walks (table_of table.now) m.now start end result }
@@ -99,7 +99,7 @@ fn order(m: &[u8], table: &[u16], start: usize, end: usize) -> Halt
 }
 
 // An OBR: after a group a group may come.
-#[cycle(behind_group_group_note_observation_order)]
+#[cycle(in_group)]
 fn group(m: &[u8], table: &[u16], start: usize, end: usize) -> Halt
     requires { Sound table.now × Here m.now start end OBR }
     ensures { Walks (table_of table.now) m.now start end result }
@@ -111,7 +111,7 @@ fn group(m: &[u8], table: &[u16], start: usize, end: usize) -> Halt
 }
 
 // An OBX: after an observation its notes may come.
-#[cycle(behind_group_group_note_observation_order)]
+#[cycle(in_group)]
 fn observation(m: &[u8], table: &[u16], start: usize, end: usize) -> Halt
     requires { Sound table.now × Here m.now start end OBX }
     ensures { Walks (table_of table.now) m.now start end result }
@@ -123,7 +123,7 @@ fn observation(m: &[u8], table: &[u16], start: usize, end: usize) -> Halt
 }
 
 // An NTE: after notes another observation may come.
-#[cycle(behind_group_group_note_observation_order)]
+#[cycle(in_group)]
 fn note(m: &[u8], table: &[u16], start: usize, end: usize) -> Halt
     requires { Sound table.now × Here m.now start end NTE }
     ensures { Walks (table_of table.now) m.now start end result }
@@ -135,7 +135,7 @@ fn note(m: &[u8], table: &[u16], start: usize, end: usize) -> Halt
 }
 
 // The segment after an OBR, an OBX or an NTE: the same may follow each of them.
-#[cycle(behind_group_group_note_observation_order)]
+#[cycle(in_group)]
 fn behind_group(m: &[u8], table: &[u16], start: usize, end: usize, number: u16) -> Halt
     requires { Sound table.now × Here m.now start end number }
     ensures { WalksIf (behind_group number) (table_of table.now) m.now start end result }
@@ -154,7 +154,7 @@ fn behind_group(m: &[u8], table: &[u16], start: usize, end: usize, number: u16) 
 }
 
 // An NK1.
-#[cycle(behind_patient_kin)]
+#[cycle(before_group)]
 fn kin(m: &[u8], table: &[u16], start: usize, end: usize) -> Halt
     requires { Sound table.now × Here m.now start end NK1 }
     ensures { Walks (table_of table.now) m.now start end result }
@@ -177,7 +177,7 @@ fn patient(m: &[u8], table: &[u16], start: usize, end: usize) -> Halt
 }
 
 // The segment after the PID or an NK1.
-#[cycle(behind_patient_kin)]
+#[cycle(before_group)]
 fn behind_patient(m: &[u8], table: &[u16], start: usize, end: usize, number: u16) -> Halt
     requires { Sound table.now × Here m.now start end number }
     ensures { WalksIf (behind_patient number) (table_of table.now) m.now start end result }
