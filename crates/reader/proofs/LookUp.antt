@@ -15,7 +15,7 @@ use Rattle.text.specs.declared.refusal.Refusal.TheVariants.{BadPlace, NoSegment}
 use Rattle.text.specs.declared.marks.Marks.{Marks}
 use Rattle.text.specs.Marks.{marks_of}
 use Rattle.parts.specs.declared.Numbers.{Numbers}
-use Rattle.frame.specs.Segments.{is_name, occurrence, field}
+use Rattle.frame.specs.Segments.{is_name}
 use Rattle.text.proofs.Answer.{first-refused, first-through, first-asked}
 use Rattle.frame.specs.declared.checks.Framing.{Framing}
 use Rattle.frame.specs.declared.checks.Framing.TheVariants as framing
