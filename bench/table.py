@@ -1,9 +1,9 @@
 """Counts and times the calls, and prints the tables: bench/table runs it.
 
-    python3 bench/table.py WHAT COMMAND..
+    python3 bench/table.py WHAT PROGRAM
 
-WHAT is `counts`, `times` or both in one word; COMMAND is the program of bench/program, and before it the emulator where one runs it. A count is what three
-calls take more than two, over the message's bytes. It is the same in every run, and by valgrind and by the emulator.
+WHAT is `counts`, `times` or both in one word; PROGRAM is that of bench/program. A count is what three calls take more than two, over the message's bytes.
+It is the same in every run.
 """
 import re
 import subprocess
@@ -81,49 +81,28 @@ HARD = [
 ]
 
 
-def by_valgrind(command, message, folder):
-    counted = ["valgrind", "--tool=callgrind", f"--callgrind-out-file={folder}/out", *command]
+def instructions(command, message, folder):
+    run = ["valgrind", "--tool=callgrind", f"--callgrind-out-file={folder}/out", *command]
     with open(message, "rb") as sent:
-        said = subprocess.run(counted, stdin=sent, stdout=subprocess.DEVNULL, stderr=subprocess.PIPE, check=True).stderr
+        said = subprocess.run(run, stdin=sent, stdout=subprocess.DEVNULL, stderr=subprocess.PIPE, check=True).stderr
     return int(re.search(rb"Collected : (\d+)", said)[1])
 
 
-def by_emulator(command, message, _):
-    """With these options the emulator tells each instruction by a line. They are those of Debian 12's, version 7.2; the kit's newer one faults at its own."""
-    emulator, *rest = command
-    traced = [emulator, "-singlestep", "-d", "exec,nochain", *rest]
-    said, count = b"", 0
-    with open(message, "rb") as sent, subprocess.Popen(traced, stdin=sent, stdout=subprocess.DEVNULL, stderr=subprocess.PIPE) as run:
-        for line in run.stderr:
-            if line.startswith(b"Trace "):
-                count += 1
-            else:
-                said += line
-    if run.returncode != 0:
-        raise subprocess.CalledProcessError(run.returncode, traced, stderr=said)
-    return count
-
-
-def is_emulated(command):
-    return len(command) > 1
-
-
-def counted(command, who, what, message):
+def counted(program, who, what, message):
     """Instructions of a call for each byte."""
-    counter = by_emulator if is_emulated(command) else by_valgrind
     with tempfile.TemporaryDirectory() as folder:
         sent = Path(folder) / "message"
         sent.write_bytes(message)
-        two, three = (counter([*command, who, what, times], sent, folder) for times in ("2", "3"))
+        two, three = (instructions([program, who, what, times], sent, folder) for times in ("2", "3"))
     return (three - two) / len(message)
 
 
-def timed(command, who, what, message):
+def timed(program, who, what, message):
     """Nanoseconds of a call: the least of five runs, each of some hundredths of a second."""
     times = str(max(1, 20_000_000 // len(message) // 10))
     runs = []
     for _ in range(5):
-        said = subprocess.run([*command, who, what, times, "timed"], input=message, stdout=subprocess.PIPE, check=True).stdout
+        said = subprocess.run([program, who, what, times, "timed"], input=message, stdout=subprocess.PIPE, check=True).stdout
         runs.append(int(said.split()[-1]) / int(times))
     return min(runs)
 
@@ -155,41 +134,38 @@ def table(*heads):
     row(*["---"] + ["---:"] * (len(heads) - 1))
 
 
-def counts(command):
+def counts(program):
     table("Message", "Bytes", "Sum of the bytes", *PAIRS)
     for what, message in USUAL:
-        cells = [f"{counted(command, 'sum', 'bytes', message):.2f}"]
+        cells = [f"{counted(program, 'sum', 'bytes', message):.2f}"]
         for entry in ENTRIES:
-            cells += [f"{counted(command, who, entry, message):.2f}" for who in ("ours", "second")]
+            cells += [f"{counted(program, who, entry, message):.2f}" for who in ("ours", "second")]
         row(what, f"{len(message):,}", *cells)
     table("Message", "Bytes", "judge, ours", "judge, second")
     for what, message in OTHER + HARD:
-        row(what, f"{len(message):,}", *(f"{counted(command, who, 'judge', message):.2f}" for who in ("ours", "second")))
+        row(what, f"{len(message):,}", *(f"{counted(program, who, 'judge', message):.2f}" for who in ("ours", "second")))
 
 
-def times(command):
-    if is_emulated(command):
-        print("\nTimes are not told where an emulator runs the program.")
-        return
+def times(program):
     table("Message", "Bytes", "Sum of the bytes", *PAIRS, "python3-hl7 parses")
     for what, message in USUAL:
-        cells = [timed(command, "sum", "bytes", message)]
+        cells = [timed(program, "sum", "bytes", message)]
         for entry in ENTRIES:
-            cells += [timed(command, who, entry, message) for who in ("ours", "second")]
+            cells += [timed(program, who, entry, message) for who in ("ours", "second")]
         cells.append(parsed(message))
         row(what, f"{len(message):,}", *(f"{cell / 1000:,.2f}" for cell in cells))
 
 
 def main():
-    asked, *command = sys.argv[1:] or [""]
-    if not command:
-        sys.exit("usage: python3 bench/table.py WHAT COMMAND.. (bench/table does it)")
+    if len(sys.argv) != 3:
+        sys.exit("usage: python3 bench/table.py WHAT PROGRAM (bench/table does it)")
+    asked, program = sys.argv[1:]
     if "counts" in asked:
         print("\nInstructions for each byte of the message")
-        counts(command)
+        counts(program)
     if "times" in asked:
         print("\nMicroseconds a call")
-        times(command)
+        times(program)
 
 
 try:

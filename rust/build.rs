@@ -25,7 +25,7 @@ fn main() {
         exit(1);
     }
     if env::var("CARGO_CFG_TARGET_ARCH").as_deref() != Ok("x86_64") {
-        eprintln!("ithwyral: the archive is for x86-64: build with --target x86_64-unknown-linux-gnu (tools/archive shows how)");
+        eprintln!("ithwyral: the archive is for x86-64: build with --target x86_64-unknown-linux-gnu");
         exit(1);
     }
     println!("cargo:rustc-link-search=native={}", directory.display());

@@ -9,7 +9,7 @@ from drawing.sources import ROOT, fail, read
 def crates():
     """Each crate with those that it may use; what belongs to the kit is no crate."""
     lines = [line.split("#")[0] for line in read("crates.txt").splitlines()]
-    told = {line.split(":")[0].strip(): line.split(":")[1].split() for line in lines if ":" in line}
+    told = {line.split(":")[0].split()[0]: line.split(":")[1].split() for line in lines if ":" in line}
     uses = {crate: [other for other in others if other in told] for crate, others in told.items()}
     order = list(uses)
     if not uses or any(order.index(other) > order.index(crate) for crate in uses for other in uses[crate]):
@@ -43,7 +43,8 @@ def kinds(uses):
     """The programs, the crates for C and Rust, and those that have laws alone, as their own files tell."""
     sources = {crate: "".join(read(str(file.relative_to(ROOT))) for file in sorted((ROOT / "crates" / crate / "src").glob("*.rt"))) for crate in uses}
     programs = {crate for crate in uses if (ROOT / "crates" / crate / "src" / "main.rt").exists()}
-    exported = {crate for crate in uses if 'extern "C"' in sources[crate]}
+    # those with exported functions; also the crate whose functions an archive's crate hands on: `cabi_c` those of `cabi`
+    exported = {name for crate in uses if 'extern "C"' in sources[crate] for name in (crate, crate.removesuffix("_c"))}
     users = {crate: {other for other in uses if crate in uses[other]} for crate in uses}
     under = below(uses)
     c_side = {crate for crate in uses if under[crate] & exported or crate in exported or users[crate] and users[crate] <= exported}

@@ -37,7 +37,7 @@ def trimmed(text, depths=DEPTHS):
 
 def deep_segment():
     """A segment that has parts of every depth: one that striking leaves, by example."""
-    for text in found(r'says withPID "([^"]*)"', STRIKING, "what is left of a PID"):
+    for text in found(r'says with_pid "([^"]*)"', STRIKING, "what is left of a PID"):
         if all(separators()[depth] in trimmed(text) for depth in DEPTHS):
             return trimmed(text)
     fail(f"{STRIKING}: no example leaves a PID that has parts of every depth")

@@ -10,8 +10,8 @@ COUNT = "the group's OBX count"
 
 def tags():
     """Each tag with what it holds, in 01's words."""
-    lines, told = definition(SLIP, "slipValues"), {}
-    for tag, segment, field in re.findall(r'tagged (\d+) \((?:resolvedAt m \(bytes "(\w+)"\) \w+ (\d+)|twoBytes)', lines):
+    lines, told = definition(SLIP, "slip_values"), {}
+    for tag, segment, field in re.findall(r'tagged (\d+) \((?:resolved_at m \(bytes "(\w+)"\) \w+ (\d+)|two_bytes)', lines):
         told[int(tag)] = place_name(segment, int(field), 1) if segment else COUNT
     if not told or list(told) != sorted(told) or len(told) != lines.count("tagged"):
         fail(f"{SLIP}: the values of a slip are not in the form that is read here, or their tags do not rise")
@@ -23,7 +23,7 @@ def slot_bytes():
     if read("crates/slips/stdin") != read("tests/messages/m.hl7") or read("crates/slips/args").split() != ["1"]:
         fail("crates/slips: the stored run is not of M's first group")
     digits = read(RUN).split()
-    size = int(found(r"^slotSize = (\d+)", SLOT, "the size of a slot")[0])
+    size = int(found(r"^slot_size = (\d+)", SLOT, "the size of a slot")[0])
     if len(digits) != size or not all(re.fullmatch("[0-9A-F]{2}", pair) for pair in digits):
         fail(f"{RUN}: that is not {size} bytes in hexadecimal digits")
     return bytes(int(pair, 16) for pair in digits)

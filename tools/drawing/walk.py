@@ -33,7 +33,7 @@ def argument_end(text, at):
 
 def steps(body):
     """The checks that a text lists, in its order: a reason; None, where the list tells it; or the name of a definition that lists more."""
-    for match in re.finditer(r"\bcheck\b|\b\w+Checks\b", body):
+    for match in re.finditer(r"\bcheck\b|\b\w+_checks\b", body):
         if match.group() != "check":
             yield match.group()
             continue
@@ -175,20 +175,20 @@ def draw_succession(sheet):
 
 FRAMES = {
     "walk": "each listed segment, in message order",
-    "fieldChecks": "each listed field, rising",
-    "repetitionChecks": "each filled repetition",
-    "leafChecks": "each listed leaf, rising",
+    "field_checks": "each listed field, rising",
+    "repetition_checks": "each filled repetition",
+    "leaf_checks": "each listed leaf, rising",
 }
 WORDS = {
     ("walk", 1): ["it is out of place"],
     ("walk", 2): ["the end may not stand there"],
-    ("fieldChecks", 4): ["too many repetitions"],
-    ("fieldChecks", 3): ["required, and its first repetition isn't filled", "(OBX-2 is required when OBX-5's first is filled)"],
-    ("leafChecks", 3): ["an Empty * leaf; other Empty leaves pass"],
-    ("leafChecks", 5): ["too long, an escape counted as one byte"],
-    ("leafChecks", 6): ["bad escape"],
-    ("leafChecks", 7): ["not of its type"],
-    ("leafChecks", 13): ["a date whose month has no such day"],
+    ("field_checks", 4): ["too many repetitions"],
+    ("field_checks", 3): ["required, and its first repetition isn't filled", "(OBX-2 is required when OBX-5's first is filled)"],
+    ("leaf_checks", 3): ["an Empty * leaf; other Empty leaves pass"],
+    ("leaf_checks", 5): ["too long, an escape counted as one byte"],
+    ("leaf_checks", 6): ["bad escape"],
+    ("leaf_checks", 7): ["not of its type"],
+    ("leaf_checks", 13): ["a date whose month has no such day"],
 }
 LEFT, RIGHT = 404, WIDTH - MARGIN
 

@@ -1,5 +1,5 @@
 -- What holds of each check of a message, and so of its fault, by tests on the table's fields and leaves and by what holds of the segments' names.
-use mathlib.Core.Path.{◌≡◌, refl}
+use mathlib.Core.Path.{◌≡◌, refl, sym, subst}
 use Prim.Native.Nat.{ℕ, zero, suc}
 use mathlib.Core.Bool.{Bool, true, ◌&&◌}
 use mathlib.Core.List.{List, [], ◌∷◌, map, flat_map}
@@ -152,7 +152,9 @@ module _ (F : ℕ → Bool) (L : Leaf → Bool) where
           let made : Entry → List Check =
           λ e. leaf_checks q (place n (suc o) f r.number e.leaf.component e.leaf.subcomponent) e.leaf e.text in
           all-flat_map Holds made r.entries
-          (all_map EntryPasses (λ e. All Holds (made e)) (λ e x. rw a.1.1 (leaf-all n o f a.1.0 h g e x)) r.entries a.0)
+          (all_map EntryPasses (λ e. All Holds (made e)) (λ e x.
+          subst (λ k. All Holds (leaf_checks q (place n (suc o) f k e.leaf.component e.leaf.subcomponent) e.leaf e.text)) (sym a.1.1)
+          (leaf-all n o f a.1.0 h g e x)) r.entries a.0)
 
       field-all : (n : Text) (o : ℕ) → N n → (vs : List Field) (v : Field) → FieldPasses v → All Holds (field_checks q n (suc o) vs v)
       field-all n o h vs v a =

@@ -17,7 +17,7 @@ use text::{is_same, put, put_decimal};
 // Puts a blank and the code whose numbers stand from one place of a table up to another.
 fn put_code(out: &mut [u8], at: usize, table: &[u16], from: usize, to: usize) -> usize
     requires code { IsCode table.now from to }
-    requires to_in_bounds { at + length (byte " " ∷ code_at table.now from to) ≤ length out.old }
+    requires room { at + length (byte " " ∷ code_at table.now from to) ≤ length out.old }
     ensures { Puts out.old at (byte " " ∷ code_at table.now from to) out.new result }
 {
     let head = [b' ', (table[from] % 256) as u8];
@@ -33,8 +33,8 @@ fn put_code(out: &mut [u8], at: usize, table: &[u16], from: usize, to: usize) ->
 
 // Puts the codes that stand in a table from one place up to another, a blank before each.
 fn put_codes(out: &mut [u8], at: usize, table: &[u16], start: usize, end: usize) -> usize
-    requires end_in_bounds { (end ≤ length table.now) × (are_codes (within start end table.now) ≡ true) }
-    requires table_in_bounds { at + length (led (byte " ") (codes_from (within start end table.now))) ≤ length out.old }
+    requires whole_codes { (end ≤ length table.now) × (are_codes (within start end table.now) ≡ true) }
+    requires room { at + length (led (byte " ") (codes_from (within start end table.now))) ≤ length out.old }
     ensures { Puts out.old at
         (led (byte " ") (codes_from (within start end table.now)))
         out.new result }
@@ -58,8 +58,8 @@ fn put_place(
     row: usize,
     alone: bool,
 ) -> usize
-    requires row_size_in_bounds { row + row_size ≤ length table.now }
-    requires table_in_bounds { at + length (place_text (row_charted segment.now alone (drop row table.now))) ≤ length out.old }
+    requires row_inside { row + row_size ≤ length table.now }
+    requires room { at + length (place_text (row_charted segment.now alone (drop row table.now))) ≤ length out.old }
     ensures { Puts out.old at
         (place_text (row_charted segment.now alone (drop row table.now)))
         out.new result }
@@ -95,9 +95,9 @@ fn put_line(
     row: usize,
     alone: bool,
 ) -> usize
-    requires row_size_in_bounds { (row + row_size ≤ length table.now) × HasLists table.now }
-    requires reason_column_bound { get_or (drop row table.now) reason_column 0 < 256 }
-    requires table_in_bounds { at + length (row_line segment.now alone (drop row table.now)) ≤ length out.old }
+    requires row_inside { (row + row_size ≤ length table.now) × HasLists table.now }
+    requires small_reason { get_or (drop row table.now) reason_column 0 < 256 }
+    requires room { at + length (row_line segment.now alone (drop row table.now)) ≤ length out.old }
     ensures { Puts out.old at
         (row_line segment.now alone (drop row table.now))
         out.new result }
@@ -131,9 +131,9 @@ pub fn put_row(
     field: u64,
     component: u64,
 ) -> usize
-    requires row_size_in_bounds { (row + row_size ≤ length table.now) × HasLists table.now }
-    requires table_value { get_or (drop row table.now) type_column 0 < 10 → reason_fits (leaf_of (drop row table.now)).list ≡ true }
-    requires table_in_bounds { at + length
+    requires row_inside { (row + row_size ≤ length table.now) × HasLists table.now }
+    requires known_reason { get_or (drop row table.now) type_column 0 < 10 → reason_fits (leaf_of (drop row table.now)).list ≡ true }
+    requires room { at + length
         (row_lines name.now field component segment.now alone (drop row table.now))
         ≤ length out.old }
     ensures { Puts out.old at

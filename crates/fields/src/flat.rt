@@ -48,7 +48,7 @@ fn is_sure(s: &[u8], q: Marks, table: &[u16], rows: Rows) -> bool
 // Whether the one leaf that the field lists is seen to break nothing: it is the first component. Most fields list no other.
 fn one_leaf_passes(s: &[u8], q: Marks, table: &[u16], rows: Rows) -> bool
     requires lists { Lists table.now rows (leaves_at table.now rows) × (is_flat q s.now ≡ true) }
-    requires start_value { rows.end - rows.start ≡ row_size }
+    requires one_row { rows.end - rows.start ≡ row_size }
     ensures { result ≡ true → ReadsRepetition q (leaves_at table.now rows) s.now passed_once }
 {
     let at = rows.start;

@@ -68,7 +68,7 @@ fn put_hd(out: &mut [u8], at: usize, q: Marks, fields: &[u8]) -> usize
 // The reply's parties, of the message's header from MSH-3 on: its receiver, MSH-5 and MSH-6, then its sender, MSH-3 and MSH-4.
 fn put_parties(out: &mut [u8], at: usize, m: &[u8], third: &[u8]) -> usize
     requires header_from { HeaderFrom m.now 3 third.now }
-    requires m_in_bounds { at + length (parties m.now) ≤ length out.old }
+    requires room { at + length (parties m.now) ≤ length out.old }
     ensures { Puts out.old at (parties m.now) out.new result }
 {
     let q = marks_of(m);
@@ -102,7 +102,7 @@ pub fn put_header(
     number: &[u8],
 ) -> usize
     requires opened { Opened m.now third.now tenth.now }
-    requires cr_in_bounds { length (reply_header m.now stamp.now number.now ++ cr ∷ []) ≤ length out.old }
+    requires room { length (reply_header m.now stamp.now number.now ++ cr ∷ []) ≤ length out.old }
     ensures { Puts out.old 0 (reply_header m.now stamp.now number.now ++ cr ∷ []) out.new result }
 {
     let q = marks_of(m);

@@ -42,8 +42,8 @@ fn type_reason(s: &[u8], n: u16) -> u8
 // The reason of the first check that a leaf's text breaks, 0 where it breaks none. A caller who knows that it has no bad escape asks this, and says how many
 // bytes a person reads (`n`). The row of the leaf begins at `at`.
 pub fn plain_reason(s: &[u8], table: &[u16], at: usize, n: usize) -> u8
-    requires row_size_in_bounds { (at + row_size ≤ length table.now) × HasLists table.now }
-    requires table_value { reason_fits (leaf_of (drop at table.now)).list ≡ true }
+    requires row_inside { (at + row_size ≤ length table.now) × HasLists table.now }
+    requires known_reason { reason_fits (leaf_of (drop at table.now)).list ≡ true }
     ensures { ReadsPlain (leaf_of (drop at table.now)) s.now n result }
 {
     if s.len() == 0 {
@@ -68,8 +68,8 @@ pub fn plain_reason(s: &[u8], table: &[u16], at: usize, n: usize) -> u8
 
 // The same of any text. A bad escape is told first; else the limit is for the text that a person reads.
 pub fn leaf_reason(s: &[u8], q: Marks, table: &[u16], at: usize) -> u8
-    requires row_size_in_bounds { (at + row_size ≤ length table.now) × HasLists table.now }
-    requires table_value { reason_fits (leaf_of (drop at table.now)).list ≡ true }
+    requires row_inside { (at + row_size ≤ length table.now) × HasLists table.now }
+    requires known_reason { reason_fits (leaf_of (drop at table.now)).list ≡ true }
     ensures { ReadsLeaf q (leaf_of (drop at table.now)) s.now result }
 {
     match resolved_len(q, s) {

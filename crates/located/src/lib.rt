@@ -63,8 +63,8 @@ pub fn field_text<'a>(s: &'a [u8], q: Marks, k: u16, number: u64) -> &'a [u8]
 
 // Where the first leaf of a field ends: the first subcomponent of the first component of its first repetition.
 fn first_leaf(x: &[u8], q: Marks) -> usize
-    ensures upper_bound { result ≤ length x.now }
-    ensures x_value { within 0 result x.now ≡ part_text (in_field q 1 1 1) x.now }
+    ensures inside { result ≤ length x.now }
+    ensures first_leaf_text { within 0 result x.now ≡ part_text (in_field q 1 1 1) x.now }
 {
     let a = near_end(x, 0, q.repetition);
     let b = near_end(&x[0..a], 0, q.component);
@@ -74,7 +74,7 @@ fn first_leaf(x: &[u8], q: Marks) -> usize
 // The rows of the type that the field with that number names.
 fn named_rows(s: &[u8], q: Marks, table: &[u16], k: u16, number: u64) -> Rows
     requires sound { Sound table.now × HasNumber s.now k }
-    requires k_bound { first_field k ≤ number }
+    requires no_lower { first_field k ≤ number }
     ensures { Lists table.now result (leaves_named table.now (named_in q s.now number)) }
 {
     let x = field_text(s, q, k, number);

@@ -29,7 +29,7 @@ fn put_field(
     component: u64,
 ) -> usize
     requires has_lists { HasLists table.now × ((k : ℕ) × IsField table.now k first next) }
-    requires next_in_bounds { at + length
+    requires room { at + length
         (asked_lines name.now field component (field_lists segment.now (rule_at table.now first next)))
         ≤ length out.old }
     ensures { Puts out.old at
@@ -57,7 +57,7 @@ fn put_segment(
     component: u64,
 ) -> usize
     requires sound { Sound table.now × (length segment.now ≡ 3) }
-    requires segment_in_bounds { at + length
+    requires room { at + length
         (asked_lines name.now field component (segment_lists (table_of table.now) segment.now))
         ≤ length out.old }
     ensures { Puts out.old at
@@ -83,7 +83,7 @@ fn put_segment(
 // Puts the lines of the lists that are asked for, of every segment.
 pub fn put_lists(out: &mut [u8], table: &[u16], name: &[u8], field: u64, component: u64) -> usize
     requires sound { Sound table.now × AreTable table.now profile01 }
-    requires profile01_in_bounds { length (asked_lines name.now field component (charted profile01)) ≤ length out.old }
+    requires room { length (asked_lines name.now field component (charted profile01)) ≤ length out.old }
     ensures { Puts out.old 0
         (asked_lines name.now field component (charted profile01))
         out.new result }

@@ -41,8 +41,8 @@ fn put_reply(
     number: &[u8],
 ) -> usize
     requires opened { Opened m.now third.now tenth.now }
-    requires v_value { verdict_of v ≡ given (Fault.verdict profile01 m.now) }
-    requires number_in_bounds { length (reply_text profile01 m.now stamp.now number.now) ≤ length out.old }
+    requires verdict_told { verdict_of v ≡ given (Fault.verdict profile01 m.now) }
+    requires room { length (reply_text profile01 m.now stamp.now number.now) ≤ length out.old }
     ensures { Puts out.old 0 (reply_text profile01 m.now stamp.now number.now) out.new result }
 {
     let control = field_leaf(tenth, marks_of(m));

@@ -70,8 +70,8 @@ fn leaf_behind(m: &[u8], start: usize, end: usize, skip: usize, q: Marks, n: Num
 
 // The header's leaf: MSH-1 and MSH-2 are unsplit, and MSH-3 begins after the ninth byte.
 fn header_leaf(m: &[u8], start: usize, end: usize, q: Marks, n: Numbers) -> Seen
-    requires start_le_end { (start ≤ end) × ((end ≤ length m.now) × (1 ≤ n.field)) }
-    requires m_value { is_header (within start end m.now) ≡ true }
+    requires inside { (start ≤ end) × ((end ≤ length m.now) × (1 ≤ n.field)) }
+    requires of_header { is_header (within start end m.now) ≡ true }
     ensures { leaf_told result ≡ leaf_found q n start (within start end m.now) }
 {
     if 3 <= n.field {

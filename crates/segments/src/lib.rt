@@ -93,7 +93,7 @@ pub fn text_passes(
 ) -> bool
     requires sound { Sound table.now × HasNumber s.now k }
     requires field { IsField table.now k at end × (text.now ≡ field q s.now (get_or table.now (at + field_column) 0)) }
-    requires text_value { is_flat q text.now ≡ true }
+    requires flat { is_flat q text.now ≡ true }
     ensures { result ≡ true → ReadsFieldAt q table.now s.now at end (at_repetition 0 0 0) }
 {
     let mut leaves = Rows { start: at, end };
@@ -106,7 +106,7 @@ pub fn text_passes(
 // Whether a field of no bytes breaks nothing.
 pub fn may_be_empty(s: &[u8], q: Marks, table: &[u16], k: u16, at: usize) -> bool
     requires sound { Sound table.now × HasNumber s.now k }
-    requires row_size_in_bounds { at + row_size ≤ length table.now }
+    requires row_inside { at + row_size ≤ length table.now }
     ensures { result ≡ true → is_required (usage_of (get_or table.now (at + usage_column) 0)) (fields_seen table.now q s.now) ≡ false }
 {
     let usage = table[at + columns::USAGE];

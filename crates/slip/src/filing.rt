@@ -15,9 +15,9 @@ use text::{Refusal, marks_of, put};
 
 // Fills a slot of zeros with the slip of the group whose OBR stands there.
 fn fill_group(m: &[u8], start: usize, end: usize, slip: &mut [u8])
-    requires m_value { (framed m.now ≡ true) × (verdict profile01 m.now ≡ accepted) }
-    requires by_index { (g : ℕ) × IsOrder m.now g start end }
-    requires slip_value { slip.old ≡ replicate slot_size 0 }
+    requires is_accepted { (framed m.now ≡ true) × (verdict profile01 m.now ≡ accepted) }
+    requires order { (g : ℕ) × IsOrder m.now g start end }
+    requires zeros { slip.old ≡ replicate slot_size 0 }
     ensures { (g : ℕ) → IsOrder m.now g start end → slip.new ≡ slip_text m.now g }
 {
     let header = occurrence(m, b'M', b'S', b'H', 1);

@@ -20,7 +20,7 @@ pub const SLOT_SIZE: usize = 1024;
 // The text is put first; then its length is known.
 fn put_text(slip: &mut [u8], at: usize, tag: u8, q: Marks, t: &[u8]) -> usize
     requires fits { Fits q longest_text t.now }
-    requires t_in_bounds { at + length (tag_bytes (tagged tag (resolved q t.now))) ≤ length slip.old }
+    requires room { at + length (tag_bytes (tagged tag (resolved q t.now))) ≤ length slip.old }
     ensures { Puts slip.old at (tag_bytes (tagged tag (resolved q t.now))) slip.new result }
 {
     if t.len() == 0 {

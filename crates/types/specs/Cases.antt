@@ -1,6 +1,6 @@
 -- No entry's promise is made of this: it tries the definitions.
 -- Days: how many the months have, which years are leap years, and dates whose day exists or not.
-use Rattle.std.specs.Prelude.{ℕ, ◌≤◌, ◌≡◌, Bool, true, false, not, ◌&&◌, List, [], ◌∷◌, map}
+use Rattle.std.specs.Prelude.{ℕ, ◌≤◌, ◌≡◌, Bool, true, not, ◌&&◌, List, [], ◌∷◌, map}
 use Prim.Native.String.{String}
 use Rattle.text.specs.Bytes.{Text, bytes, every}
 use Rattle.types.specs.Types.{is_dtm, is_leap, days_in, day_of, day_exists, is_stamp}
