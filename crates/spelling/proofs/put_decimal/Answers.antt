@@ -1,5 +1,5 @@
--- `put_decimal`: 20 bytes hold the digits of any number.
-use Rattle.std.proofs.Common.{arith}
+-- `put_decimal`: no number has more than 20 digits.
+use native.Mathlib.Omega.{arith}
 use Rattle.text.proofs.Digits.{decimal-length}
 use Rattle.spelling.proofs.put_decimal.Goals as goal
 

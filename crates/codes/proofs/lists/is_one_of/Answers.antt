@@ -70,7 +70,12 @@ loop-at-preserved c = let some = (fits (length c.args.s.now) c.if-s.false).0 in
     let byte = (c.type_inv.s 0).fits in
     let w = walk-on c.args.codes.now c.loop-at.at c.args.end c.args.s.now c.loop-at-test.true c.requires.0 some byte c.loop-at.invariant.0 in (
       w.1,
-      elim c.if-number-first.branch [ then-number-first+else-follows f ↦ walk_past c.args.codes.now c.loop-at.at c.args.end c.args.s.now c.loop-at-test.true c.requires.0 some byte c.loop-at.invariant.0 _ f.follows.ensures f.if-number-first.true f.if-follows.false | else-number-first f ↦ walk-other c.args.codes.now c.loop-at.at c.args.end c.args.s.now c.loop-at-test.true c.requires.0 some byte c.loop-at.invariant.0 f.if-number-first.false ]
+      elim c.if-number-first.branch [
+        | then-number-first+else-follows f ↦
+            walk_past c.args.codes.now c.loop-at.at c.args.end c.args.s.now c.loop-at-test.true c.requires.0 some byte c.loop-at.invariant.0 _ f.follows.ensures f.if-number-first.true f.if-follows.false
+        | else-number-first f ↦
+            walk-other c.args.codes.now c.loop-at.at c.args.end c.args.s.now c.loop-at-test.true c.requires.0 some byte c.loop-at.invariant.0 f.if-number-first.false
+      ]
           ∙ c.loop-at.invariant.1,
     )
 
