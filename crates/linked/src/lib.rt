@@ -1,5 +1,5 @@
-// The six exported functions, each called as it is, under the promise that `Exported` is about. Nothing is asked of the caller. Where an
-// exported function came to promise less, or to ask for something first, this crate would no longer be proved.
+// The six functions of `cabi` that `cabi_c` exports, each called as it is, under the promise that `Exported` is about. Nothing is asked of the
+// caller. Where one of them came to promise less, or to ask for something first, this crate would no longer be proved.
 #![tactic(auto)]
 
 ghost use Rattle.profile.specs.Profile.{profile01};

@@ -33,10 +33,20 @@ fn run<R: Read>(
     Ok(())
 }
 
+// The arrays as slices. Lent as arrays first, their lengths are told by their types; a million bytes are too many for the prover to count.
+fn run_in<R: Read>(
+    rt: &impl Print,
+    input: &mut R,
+    window: &mut [u8; 1048577],
+    out: &mut [u8; 393344],
+) -> io::Result<()> {
+    run(rt, input, window, out)
+}
+
 fn main(rt: HostRuntime) -> io::Result<()> {
     // the longest line and its line feed
     let mut window = [0u8; 1048577];
     // three bytes for each of the longest string, and the words before it
     let mut out = [0u8; 393344];
-    run(&rt, &mut rt.stdin(), &mut window, &mut out)
+    run_in(&rt, &mut rt.stdin(), &mut window, &mut out)
 }

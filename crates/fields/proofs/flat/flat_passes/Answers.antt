@@ -1,6 +1,5 @@
 -- `flat_passes`: a flat field is its only repetition.
 use native.Mathlib.Omega.{arith}
-use borrow.Author.Rules.{rules}
 use Rattle.codes.specs.Inner.{leaves_at}
 use Rattle.fields.proofs.FlatField.{flat-reads}
 use Rattle.fields.proofs.flat.flat_passes.Goals as goal

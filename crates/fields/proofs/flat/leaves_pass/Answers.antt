@@ -1,10 +1,8 @@
 -- `leaves_pass`: nothing is broken before the row where the loop stands.
 use mathlib.Core.Path.{refl, sym, ◌∙◌}
-use mathlib.Core.Logic.{⊎_elim}
-use Prim.Native.Nat.{◌+◌, ◌-◌}
+use Prim.Native.Nat.{◌+◌}
 use native.Mathlib.Omega.{arith}
-use borrow.Author.Rules.{rules}
-use borrow.Author.Tests.{eqb-true, not-false}
+use borrow.Author.Tests.{eqb-true}
 use lib.Dec.{eqb}
 use Rattle.profile.specs.Numbers.{component_column}
 use Rattle.checks.specs.Place.{place}
@@ -13,7 +11,7 @@ use Rattle.leaves.proofs.Breaks.{told_none}
 use Rattle.text.specs.Bytes.{within}
 use Rattle.text.proofs.Tests.{not-true, both}
 use Rattle.cursor.proofs.Moving.{cursor-inside}
-use Rattle.leaves.proofs.LeafByLeaf.{Reading, reading-first, reading-number, reading-reason, reading-missing, reading-none}
+use Rattle.leaves.proofs.LeafByLeaf.{reading-first, reading-number, reading-reason, reading-missing, reading-none}
 use Rattle.fields.proofs.FlatField.{flat_measured, flat_on}
 use Rattle.fields.proofs.flat.leaves_pass.Goals as goal
 use Rattle.fields.proofs.flat.leaves_pass.Goals.{else-not-takes_any, then-not-takes_any+else-plain_reason-ne-NOTHING_BROKEN}

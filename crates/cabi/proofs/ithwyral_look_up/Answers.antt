@@ -1,0 +1,6 @@
+-- `ithwyral_look_up`: what is found at the place looked up is what stands at the place asked for.
+use Rattle.std.proofs.Common.{◌∙◌}
+use Rattle.cabi.proofs.ithwyral_look_up.Goals as goal
+
+pub returns : goal.returns
+returns c = rw (c.find.ensures ∙ c.place_asked.ensures c.args.m.now) at c.tell_found.ensures
