@@ -3,12 +3,9 @@ use mathlib.Core.Path.{◌≡◌, refl, sym, ap, ◌∙◌}
 use Prim.Native.Nat.{ℕ, ◌+◌, ◌-◌, ◌≤◌, ◌<◌}
 use native.Mathlib.Omega.{arith}
 use mathlib.Core.Bool.{true, false}
-use mathlib.Core.Logic.{⊎_elim}
 use mathlib.Core.List.{List, [], ◌∷◌, ◌++◌, append_assoc, append-nil}
 use lib.ListN.{length, length-append}
 use lib.Dec.{ltb}
-use types.Run.{OneOf}
-use denote.Enum.Declared.{tag_of}
 use borrow.Author.Tests.{lt-ltb, le-ltb}
 use Rattle.text.specs.Bytes.{Text, pick, bytes, cr, within}
 use Rattle.types.specs.Types.{is_stamp, is_reply_number}
@@ -24,7 +21,6 @@ use Rattle.text.proofs.Puts.{puts-length, puts-head, puts-both, puts-front-room,
 use Rattle.parts.specs.Split.{led, join, closed}
 use Rattle.frame.specs.Frame.{frame_tests, framed}
 use Rattle.profile.specs.Profile.{profile01}
-use Rattle.reader.specs.contracts.Verdict as machine
 use Rattle.reader.specs.declared.Verdict as code-verdict
 use Rattle.reader.specs.declared.Verdict.TheVariants as code
 use Rattle.reader.specs.Fault.{Verdict, accepted, fault, verdict, judge}
@@ -142,13 +138,13 @@ module _ (m stamp number before : Text) where
       acknowledges_given {e} {after} copied = let z : r - 0 ≡ r = omega arith in acknowledges_put (rw (z, puts-head aside) at copied)
 
 -- THE REPLY, by the verdict: a verdict that is no refusal is told where the frame is good
-given-one : (v : code-verdict.Verdict) → OneOf (1 ∷ 2 ∷ []) (tag_of machine.the_type v) → (w : Verdict) × (verdict_of v ≡ given w)
-given-one (code.Refused r) h = absurd (⊎_elim (λ e. omega arith) (λ e. omega arith) h)
+given-one : (v : code-verdict.Verdict) → ((x : Refusal) → v ≡ code.Refused x → ⊥) → (w : Verdict) × (verdict_of v ≡ given w)
+given-one (code.Refused r) h = absurd (h r refl)
 given-one code.Accepted h = (accepted, refl)
 given-one (code.Fault f) h = (fault (place_of f.place) f.reason, refl)
 
 module _ (m : Text) (v : code-verdict.Verdict) (judged : verdict_of v ≡ judge profile01 m) where
-  module _ (told : OneOf (1 ∷ 2 ∷ []) (tag_of machine.the_type v)) where
+  module _ (told : ((x : Refusal) → v ≡ code.Refused x → ⊥)) where
     good : framed m ≡ true
     unfolding judge
     good = let g = given-one v told in given-passes (frame_tests m) (verdict profile01 m) g.0 (sym judged ∙ g.1)
@@ -167,7 +163,7 @@ module _ (m : Text) (v : code-verdict.Verdict) (judged : verdict_of v ≡ judge 
         let l = first-refused (frame_tests m) (own_tests profile01 m stamp number (length before)) (reply_text profile01 m stamp number) x g in
         record { answer = rw (← l); buffer = rw (← l) }
 
-    pub replies-given : OneOf (1 ∷ 2 ∷ []) (tag_of machine.the_type v) → {r : Written} {after : Text} → Acknowledges m stamp number before r after
+    pub replies-given : ((x : Refusal) → v ≡ code.Refused x → ⊥) → {r : Written} {after : Text} → Acknowledges m stamp number before r after
         → Replies profile01 m stamp number before r after
     unfolding spec.reply
     replies-given told {r} {after} a =
