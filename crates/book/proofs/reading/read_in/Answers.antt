@@ -15,26 +15,39 @@ pub read_tag-requires : goal.read_tag-requires
 read_tag-requires c = omega (arith, c.loop-k.invariant.near, c.loop-k-test.true, c.requires)
 
 pub returns-in_default : goal.returns-in_default
-returns-in_default c = read-bad c.args.s.now c.args.base c.args.tag c.loop-k.found c.loop-k.at c.loop-k.k c.loop-k.invariant c.loop-k-test.true
+returns-in_default c =
+    read-bad c.args.s.now c.args.base c.args.tag c.loop-k.found c.loop-k.at c.loop-k.k c.loop-k.invariant c.loop-k-test.true
     (field_as c.args.s.now c.loop-k.at c.loop-k.k c.read_tag.result _ c.in_default.is c.read_tag.ensures)
 
 pub value_in-found-requires : goal.value_in-found-requires
-value_in-found-requires c = let w = field_as c.args.s.now c.loop-k.at c.loop-k.k c.read_tag.result _ c.in-Ends.is c.read_tag.ensures in
+value_in-found-requires c =
+    let w = field_as c.args.s.now c.loop-k.at c.loop-k.k c.read_tag.result _ c.in-Ends.is c.read_tag.ensures in
     (omega (arith, c.loop-k.invariant.near, c.loop-k-test.true, c.requires), omega (arith, c.loop-k.invariant.near, c.loop-k-test.true, c.requires))
 
 pub loop-k-preserved : goal.loop-k-preserved
-loop-k-preserved c = let w = field_as c.args.s.now c.loop-k.at c.loop-k.k c.read_tag.result _ c.in-Ends.is c.read_tag.ensures in
-    elim c.if-tag-k.branch [ then-tag-k z ↦ rw (z.found-is, z.value_in-found.ensures) (read_here c.args.s.now c.args.base c.args.tag c.loop-k.found c.loop-k.at c.loop-k.k c.loop-k.invariant c.loop-k-test.true _ w z.if-tag-k.true) | else-tag-k z ↦ rw z.found-is (read_past c.args.s.now c.args.base c.args.tag c.loop-k.found c.loop-k.at c.loop-k.k c.loop-k.invariant c.loop-k-test.true _ w z.if-tag-k.false) ]
+loop-k-preserved c =
+    let w = field_as c.args.s.now c.loop-k.at c.loop-k.k c.read_tag.result _ c.in-Ends.is c.read_tag.ensures in
+    elim c.if-tag-k.branch [
+      | then-tag-k z ↦
+          rw (z.found-is, z.value_in-found.ensures)
+          (read_here c.args.s.now c.args.base c.args.tag c.loop-k.found c.loop-k.at c.loop-k.k c.loop-k.invariant c.loop-k-test.true _ w z.if-tag-k.true)
+      | else-tag-k z ↦
+          rw z.found-is
+          (read_past c.args.s.now c.args.base c.args.tag c.loop-k.found c.loop-k.at c.loop-k.k c.loop-k.invariant c.loop-k-test.true _ w z.if-tag-k.false)
+    ]
 
 pub returns-then-not-ends_well : goal.returns-then-not-ends_well
-returns-then-not-ends_well c = read_no_slip c.args.s.now c.args.base c.args.tag c.loop-k.found c.loop-k.at c.loop-k.k c.loop-k.invariant c.loop-k-test.false
+returns-then-not-ends_well c =
+    read_no_slip c.args.s.now c.args.base c.args.tag c.loop-k.found c.loop-k.at c.loop-k.k c.loop-k.invariant c.loop-k-test.false
     c.ends_well.result c.ends_well.ensures (ap not c.if-not-ends_well.true)
 
 pub returns-then-tag : goal.returns-then-tag
-returns-then-tag c = ap value_of c.value_in.ensures
+returns-then-tag c =
+    ap value_of c.value_in.ensures
     ∙ read_count c.args.s.now c.args.base c.args.tag c.loop-k.found c.loop-k.at c.loop-k.k c.loop-k.invariant c.loop-k-test.false
     c.ends_well.result c.ends_well.ensures (ap not c.if-not-ends_well.false) c.if-tag.true
 
 pub returns : goal.returns
-returns c = read_found c.args.s.now c.args.base c.args.tag c.loop-k.found c.loop-k.at c.loop-k.k c.loop-k.invariant c.loop-k-test.false
+returns c =
+    read_found c.args.s.now c.args.base c.args.tag c.loop-k.found c.loop-k.at c.loop-k.k c.loop-k.invariant c.loop-k-test.false
     c.ends_well.result c.ends_well.ensures (ap not c.if-not-ends_well.false) c.if-tag.false

@@ -7,6 +7,23 @@ use Rattle.slip.proofs.Groups.{group_count}
 use Rattle.slip.proofs.GroupSlip.{IsRead, group_fits, group_slip}
 use borrow.Author.Rules.{rules}
 use Rattle.slip.proofs.filing.fill_group.Goals as goal
+use Rattle.slip.proofs.filing.fill_group.Goals.{After-observations}
+
+-- the five texts, when all is read
+read : (c : After-observations)
+    → IsRead c.args.m.now c.args.start c.args.end c.occurrence-header.result c.occurrence-patient.result c.marks_of.result c.text_in.result.now
+    c.text_in-2.result.now c.text_in-3.result.now c.text_in-4.result.now c.text_in-5.result.now
+read c =
+    record {
+      marks = c.marks_of.ensures;
+      header-stands = c.occurrence-header.ensures;
+      patient-stands = c.occurrence-patient.ensures;
+      control-text = c.text_in.ensures;
+      identity_text = c.text_in-2.ensures;
+      placer-text = c.text_in-3.ensures;
+      filler-text = c.text_in-4.ensures;
+      service-text = c.text_in-5.ensures;
+    }
 
 pub text_in-requires : goal.text_in-requires
 text_in-requires c = (standing_stood c.args.m.now (bytes "MSH") 1 c.occurrence-header.result c.occurrence-header.ensures, omega arith)
@@ -31,31 +48,11 @@ pub observations-requires : goal.observations-requires
 observations-requires c = omega (arith, (group_count c.args.m.now c.requires.order.0 _ _ c.requires.order.1.0 c.requires.order.1.1).0)
 
 pub fill-requires : goal.fill-requires
-fill-requires c = let read : IsRead c.args.m.now c.args.start c.args.end c.occurrence-header.result c.occurrence-patient.result c.marks_of.result c.text_in.result.now
-    c.text_in-2.result.now c.text_in-3.result.now
-    c.text_in-4.result.now c.text_in-5.result.now = record {
-      marks = c.marks_of.ensures;
-      header-stands = c.occurrence-header.ensures;
-      patient-stands = c.occurrence-patient.ensures;
-      control-text = c.text_in.ensures;
-      identity_text = c.text_in-2.ensures;
-      placer-text = c.text_in-3.ensures;
-      filler-text = c.text_in-4.ensures;
-      service-text = c.text_in-5.ensures;
-    } in
-    group_fits (read) c.requires.order.0 c.requires.order.1 c.requires.is_accepted.0 c.requires.is_accepted.1 _ c.requires.zeros
+fill-requires c =
+    let there = read (goal.at.fill-requires c).After-observations in
+    group_fits there c.requires.order.0 c.requires.order.1 c.requires.is_accepted.0 c.requires.is_accepted.1 _ c.requires.zeros
 
 pub returns : goal.returns
-returns c g o = let read : IsRead c.args.m.now c.args.start c.args.end c.occurrence-header.result c.occurrence-patient.result c.marks_of.result c.text_in.result.now
-    c.text_in-2.result.now c.text_in-3.result.now
-    c.text_in-4.result.now c.text_in-5.result.now = record {
-      marks = c.marks_of.ensures;
-      header-stands = c.occurrence-header.ensures;
-      patient-stands = c.occurrence-patient.ensures;
-      control-text = c.text_in.ensures;
-      identity_text = c.text_in-2.ensures;
-      placer-text = c.text_in-3.ensures;
-      filler-text = c.text_in-4.ensures;
-      service-text = c.text_in-5.ensures;
-    } in
-    group_slip (read) g o c.observations.result _ c.observations.ensures c.fill.ensures
+returns c g o =
+    let there = read (goal.at.returns c).After-observations in
+    group_slip there g o c.observations.result _ c.observations.ensures c.fill.ensures
