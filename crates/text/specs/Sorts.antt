@@ -1,4 +1,4 @@
--- An entry's promise is made of this.
+-- Inner: no entry's promise is made of this.
 -- The three sorts of what may stand at a leaf: Empty, Null or Text.
 use Rattle.std.specs.Prelude.{Bool, not, ◌||◌}
 use Rattle.text.specs.Bytes.{Text, bytes, empty, same}
