@@ -133,7 +133,7 @@ file-writes m group slot before =
 
 -- 3. A CALL THAT ONLY READS: the very part of what was lent is there
 abbrev part_of : Bor Text → ℕ → ℕ → Bor Text
-part_of m a e = record { ref_ptr = (m.ref_ptr.0, m.ref_ptr.1 + a); ghost_name = m.ghost_name; now = within a e m.now }
+part_of m a e = record { ref_ptr = (m.ref_ptr.0, m.ref_ptr.1 + a); now = within a e m.now }
 
 very_part : (m : Bor Text) (a e : ℕ) → VeryPart (part_of m a e) m a e
 very_part m a e = record { bytes = refl; block = refl; offset = refl }
