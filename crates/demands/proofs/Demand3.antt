@@ -33,7 +33,7 @@ use Rattle.demands.specs.Demand3.{shown_found, look_up_shown, shown_by, handed_s
 use Rattle.demands.proofs.SameAnswers.{good', checks-same, judge-same, look-same, reply-same, file-same}
 use Rattle.striking.proofs.Striking.{not-empty}
 
--- what a look_up hands back has the bytes that its answer names
+-- what a look-up hands back has the bytes that its answer names
 shown-step : (f : code-found.Found) (t m : Text) → t ≡ within (start_of f) (end_of f) m → shown_by f t ≡ tell (shown_found m) (found_of f)
 shown-step (code-found.TheVariants.Refused r) t m e = refl
 shown-step code-found.TheVariants.Empty t m e = refl

@@ -3,8 +3,8 @@
 -- its first fault, with place and reason; that replies and slips have exactly the bytes that 01 lays down; and that a slip read back
 -- gives the values filed.
 --
--- The checks of a message, in the order of 01's walk, are `checks` (checks/specs/Fault.antt); the bytes of a reply are `replyText` (reply), those of a slip
--- `slipText` (slip). Here stands what the entries' promises say of them.
+-- The checks of a message, in the order of 01's walk, are `checks` (checks/specs/Fault.antt); the bytes of a reply are `reply_text` (reply), those of a slip
+-- `slip_text` (slip). Here stands what the entries' promises say of them.
 use Rattle.std.specs.Prelude.{◌≡◌, ℕ, ◌+◌, ◌≤◌, true, false, [], ◌∷◌, map, length, take, drop}
 use Rattle.std.proofs.Math.Option.{some}
 use Rattle.std.specs.Borrow.{Bor}

@@ -1,7 +1,7 @@
 -- A demand is said with this.
 -- DEMAND 3: A NEWER SENDER'S ADDITIONS ALTER NOTHING. Of a message that passes the eight frame checks everything that the table does not list is
 -- struck out (`strike`). The user must be certain that what the definition of demand 2 gives for the struck message is what we
--- give for the message as it came: the verdict with its place and reason, the look_up answer at each listed place (of a text its bytes), the
+-- give for the message as it came: the verdict with its place and reason, the look-up answer at each listed place (of a text its bytes), the
 -- reply for every stamp, reply number and buffer with what the buffer then holds, and the filing of every group in every slot and
 -- book with what the book then holds, or the refusal of either.
 use Rattle.std.specs.Prelude.{◌≡◌, ℕ, true}
@@ -27,7 +27,7 @@ use Rattle.striking.specs.Strike.{is_listed_place, strike}
 use Rattle.profile.specs.Fit.{fit, has_copies}
 use Rattle.striking.specs.Striking.{NotEmpty}
 
--- a look_up's answer by its bytes, since striking moves the starts
+-- a look-up's answer by its bytes, since striking moves the starts
 pub data ByBytes : Type 0 where
   Empty : ByBytes
   Bytes : Text → ByBytes
@@ -57,12 +57,12 @@ pub record SameAfter {R L : Type 0} (came struck : R → L → Type 0) : Type 0 
   pub as_struck : (r : R) (after : L) → came r after → struck r after
   pub equal : (r s : R) (after after' : L) → came r after → struck s after' → (r ≡ s) × (after ≡ after')
 
--- the same for a look_up, whose answers are compared by their bytes
+-- the same for a look-up, whose answers are compared by their bytes
 pub record SameShown (p : code.Place) (came struck : Bor Text) : Type 0 where
   pub as_struck : (r : LookedUp) → LooksUp came p r → handed_shown r ≡ look_up_shown struck.now (place_of p)
   pub equal : (r s : LookedUp) → LooksUp came p r → LooksUp struck p s → handed_shown r ≡ handed_shown s
 
--- NOTHING ALTERED BY THE DEFINITIONS: every check, broken or not, the verdict, the look_up at each listed place, every reply, every filing
+-- NOTHING ALTERED BY THE DEFINITIONS: every check, broken or not, the verdict, the look-up at each listed place, every reply, every filing
 pub record SameDefined (T : Table) (m : Text) : Type 0 where
   pub all-checks : checks T (strike T m) ≡ checks T m
   pub judges : judge T (strike T m) ≡ judge T m

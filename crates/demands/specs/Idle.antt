@@ -33,7 +33,7 @@ abbrev pub together : Text → ℕ → ℕ
 together m zero = 0
 together m (suc n) = observations_of m (suc n) + together m n
 
--- the slip of group 2 of `twoOrders`: that group has its own OBR and one OBX
+-- the slip of group 2 of `two_orders`: that group has its own OBR and one OBX
 abbrev pub second_slip : Text
 second_slip =
     (1 ∷ 0 ∷ 2 ∷ bytes "C7") ++ (2 ∷ 0 ∷ 3 ∷ bytes "A55") ++ (3 ∷ 0 ∷ 3 ∷ bytes "P&1") ++ (4 ∷ 0 ∷ 3 ∷ bytes "F10")
