@@ -1,5 +1,5 @@
--- `look_up` and `read_slip` hand out a struct that holds a reference, and the borrow checker does not follow a caller of theirs. So of
--- these two the contracts themselves are held to what the demands are about: nothing is asked, and the promise is that one.
+-- Of `look_up` and `read_slip`, which hand out a struct that holds a reference, the contracts themselves are held to what the demands are
+-- about: nothing is asked, and the promise is that one.
 use mathlib.Core.Path.{◌≡◌, refl}
 use seplogic.Ra.Ura.{Ura}
 use base.Logic.{SProp}
