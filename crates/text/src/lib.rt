@@ -1,10 +1,11 @@
-// Bytes and byte strings, the five separators, the very part of lent bytes, writing into a lent buffer; the numbers that a caller gets back.
+// Bytes and byte strings, the five separators, parts of lent bytes, writing into a lent buffer; the numbers that a caller gets back.
 #![tactic(auto)]
 
 mod bytes;
 mod lent;
 mod marks;
 mod refusal;
+mod span;
 mod writing;
 
 pub use bytes::{
@@ -12,12 +13,6 @@ pub use bytes::{
 };
 pub use lent::part;
 pub use marks::{Marks, marks_of, usual_marks};
-pub use refusal::{Refusal, number};
+pub use refusal::Refusal;
+pub use span::Span;
 pub use writing::{put, put_decimal};
-
-// The answer of a call that writes into a lent buffer: refused, or so many bytes written.
-#[derive(Clone, Copy)]
-pub enum Written {
-    Refused(Refusal),
-    Bytes(usize),
-}
