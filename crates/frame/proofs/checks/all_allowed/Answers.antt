@@ -1,16 +1,12 @@
 -- `all_allowed`: what was seen and what is left decide together.
 use Rattle.text.proofs.Lists.{every-seen, every-end, and-true}
-use borrow.Author.Rules.{rules}
 use mathlib.Core.Path.{sym, ◌∙◌}
 use Rattle.text.specs.Bytes.{every}
 use Rattle.frame.specs.Frame.{allowed}
 use Rattle.frame.proofs.checks.all_allowed.Goals as goal
 
-pub loop-i-preserved : goal.loop-i-preserved
-loop-i-preserved c = (
-  search rules,
-  every-seen allowed c.args.m.now c.loop-i.i c.loop-i.ok c.is_allowed-ok.result (every allowed c.args.m.now) (search rules) c.is_allowed-ok.ensures c.loop-i.invariant.1,
-)
+pub loop-b-preserved : goal.loop-b-preserved
+loop-b-preserved c = every-seen allowed c.args.m.now c.loop-b.b-index c.loop-b.ok c.is_allowed-ok.result (every allowed c.args.m.now) c.loop-b-test.true c.is_allowed-ok.ensures c.loop-b.invariant
 
 pub returns : goal.returns
-returns c = sym (and-true c.loop-i.ok) ∙ (rw (every-end allowed c.args.m.now c.loop-i.i c.loop-i-test.false) at c.loop-i.invariant.1)
+returns c = sym (and-true c.loop-b.ok) ∙ (rw (every-end allowed c.args.m.now c.loop-b.b-index c.loop-b-test.false) at c.loop-b.invariant)
