@@ -1,5 +1,6 @@
 -- Laws of escapes: what a reader from the left finds at the end, at a byte that is no \, and at a \.
-use mathlib.Core.Path.{◌≡◌, refl, sym, ap, subst, ◌∙◌}
+use mathlib.Core.Path.{◌≡◌, refl, sym, ap, ◌∙◌}
+use Rattle.std.proofs.Common.{Option, Some, None, ok_or, Result, Ok, Err}
 use Prim.Native.Nat.{ℕ, zero, suc, ◌+◌, ◌*◌, ◌-◌, ◌≤◌, ◌<◌}
 use native.Mathlib.Numerals.{add-one}
 use native.Mathlib.Omega.{arith}
@@ -17,13 +18,10 @@ use Rattle.escape.specs.Escape.{five, is_escape, stands_for, stops, bad_escape, 
 use Rattle.escape.specs.Step.{is_other, is_letter, meant}
 use Rattle.escape.specs.Promise.{Resolves}
 use Rattle.escape.specs.Length.{Measures}
-use Rattle.escape.specs.declared.Length.{Length}
-use Rattle.escape.specs.declared.Length.TheVariants as measured
 use Rattle.text.specs.Puts.{Puts}
 use Rattle.text.specs.declared.marks.Marks.{Marks}
+use Rattle.text.specs.declared.refusal.Refusal.{Refusal}
 use Rattle.text.specs.declared.refusal.Refusal.TheVariants.{NoRoom, BadEscape}
-use Rattle.text.specs.declared.Written.{Written}
-use Rattle.text.specs.declared.Written.TheVariants.{Refused, Bytes}
 use Rattle.text.proofs.Tests.{not-true, both, and-false, picks}
 use Rattle.text.proofs.Lists.{or-false, and-true}
 use Rattle.text.proofs.Puts.{puts-front-room, puts-front-ends, puts-front}
@@ -207,10 +205,6 @@ module _ (q : Marks) (t : Text) (i : ℕ) where
       rw (one, two, drop-cons t i 0 a, drop-cons t (suc i) 0 b, drop-cons t (suc (suc i)) 0 c)
       (escape-front q (get_or t i 0) (get_or t (suc i) 0) (get_or t (suc (suc i)) 0) (drop (suc (suc (suc i))) t) ∙ rw (eq-eqb (get_or t i 0) q.escape e))
 
--- what is known of a length is known of the case that a match has found
-pub measures_as : (q : Marks) (t : Text) (r s : Length) → r ≡ s → Measures q t r → Measures q t s
-measures_as q t r s e m = subst (Measures q t) e m
-
 -- n bytes of the resolved text are counted when the reader stands at i, and no bad escape was met
 pub record Counted (q : Marks) (t : Text) (n i : ℕ) : Type 0 where
   pub within : i ≤ length t
@@ -231,14 +225,14 @@ module _ (q : Marks) (t : Text) where
         told = omega (arith, ap length g.reads);
       }
 
-  pub counted-bad : (n i : ℕ) → i < length t → get_or t i 0 ≡ q.escape → is_escape q (drop i t) ≡ false → Counted q t n i → Measures q t measured.BadEscape
+  pub counted-bad : (n i : ℕ) → i < length t → get_or t i 0 ≡ q.escape → is_escape q (drop i t) ≡ false → Counted q t n i → Measures q t None
   counted-bad n i h e b c = sym c.bad ∙ escape-bad q t i h e b
 
-  pub counted-all : (n i : ℕ) → length t ≤ i → Counted q t n i → Measures q t (measured.Bytes n)
+  pub counted-all : (n i : ℕ) → length t ≤ i → Counted q t n i → Measures q t (Some n)
   counted-all n i h c = (sym c.bad ∙ bad-end q t i h, omega (arith, c.told, ap length (reads_end q t i h)))
 
   -- with no \ in it, it is as long as it is written
-  pub counted_free : every (is_other q.escape) t ≡ true → Measures q t (measured.Bytes (length t))
+  pub counted_free : every (is_other q.escape) t ≡ true → Measures q t (Some (length t))
   counted_free e = (free_good q t e, ap length (sym (free_resolved q t e)))
 
 -- a buffer with the rest still to be written at n
@@ -340,22 +334,34 @@ module _ (q : Marks) (t : Text) (room : ℕ) where
       ∙ ap (λ (x : Bool). pick x (refused NoRoom) (given (resolved q t))) (le-ltb room (length (resolved q t)) h)
 
 -- a call's answer and buffer are those that the definition gives
-resolves : (t before : Text) (r : Written) (after : Text) (a : Answer Text) → resolve usual t (length before) ≡ a → written_of r ≡ reported a
+resolves : (t before : Text) (r : Result ℕ Refusal) (after : Text) (a : Answer Text) → resolve usual t (length before) ≡ a → written_of r ≡ reported a
     → after ≡ buffer_after a before
     → Resolves t before r after
 resolves t before r after a e p s =
     record { answer = p ∙ ap reported (sym e); buffer = s ∙ ap (λ (x : Answer Text). buffer_after x before) (sym e) }
 
-module _ (q : Marks) (t before : Text) (u : q ≡ usual) where
-  pub resolves-bad : bad_escape q t ≡ true → Resolves t before (Refused BadEscape) before
-  resolves-bad b =
-      resolves t before (Refused BadEscape) before (refused BadEscape) (resolve-bad usual t (length before) (rw u at b)) refl refl
+-- the length that is measured, as `ok_or` hands it on
+measured : (q : Marks) (t : Text) (o : Option ℕ) (n : ℕ) → Measures q t o → Ok n ≡ ok_or o BadEscape → (bad_escape q t ≡ false) × (n ≡ length (resolved q t))
+measured q t None n m e = cc
+measured q t (Some k) n m e = let h : n ≡ k = cc in (m.0, h ∙ m.1)
 
-  pub resolves_full : (n : ℕ) → bad_escape q t ≡ false → n ≡ length (resolved q t) → length before < n → Resolves t before (Refused NoRoom) before
-  resolves_full n b e h =
-      resolves t before (Refused NoRoom) before (refused NoRoom) (resolve_full usual t (length before) (rw u at b) (rw (e, u) at h)) refl refl
+not_measured : (q : Marks) (t : Text) (o : Option ℕ) (x : Refusal) → Measures q t o → Err x ≡ ok_or o BadEscape → (bad_escape q t ≡ true) × (x ≡ BadEscape)
+not_measured q t None x m e = (m, cc)
+not_measured q t (Some k) x m e = cc
 
-  pub resolves-given : (n : ℕ) (after : Text) → bad_escape q t ≡ false → Puts before 0 (resolved q t) after n → Resolves t before (Bytes n) after
-  resolves-given n after b p =
-      resolves t before (Bytes n) after (given (resolved usual t)) (resolve-given usual t (length before) (rw u at b) (rw u at (puts-front-room p)))
+module _ (q : Marks) (t before : Text) (u : q ≡ usual) (o : Option ℕ) (m : Measures q t o) where
+  pub resolves-bad : (x : Refusal) → Err x ≡ ok_or o BadEscape → Resolves t before (Err x) before
+  resolves-bad x e =
+      let h = not_measured q t o x m e in
+      rw h.1
+      (resolves t before (Err BadEscape) before (refused BadEscape) (resolve-bad usual t (length before) (rw u at h.0)) refl refl)
+
+  pub resolves_full : (n : ℕ) → Ok n ≡ ok_or o BadEscape → length before < n → Resolves t before (Err NoRoom) before
+  resolves_full n e h =
+      let l = measured q t o n m e in
+      resolves t before (Err NoRoom) before (refused NoRoom) (resolve_full usual t (length before) (rw u at l.0) (rw (l.1, u) at h)) refl refl
+
+  pub resolves-given : (n : ℕ) (after : Text) (r : ℕ) → Ok n ≡ ok_or o BadEscape → Puts before 0 (resolved q t) after r → Resolves t before (Ok r) after
+  resolves-given n after r e p =
+      resolves t before (Ok r) after (given (resolved usual t)) (resolve-given usual t (length before) (rw u at (measured q t o n m e).0) (rw u at (puts-front-room p)))
       (ap given (rw u at (puts-front-ends p))) (rw u at (puts-front p))

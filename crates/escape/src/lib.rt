@@ -9,7 +9,7 @@ ghost use Rattle.escape.specs.Promise.{Resolves};
 ghost use Rattle.text.specs.Puts.{Puts};
 ghost use Rattle.escape.specs.Step.{is_other, is_letter};
 
-use text::{Marks, Refusal, Written, usual_marks};
+use text::{Marks, Refusal, usual_marks};
 
 // Whether this is the letter of one of the five escapes.
 fn is_letter(b: u8) -> bool
@@ -55,15 +55,8 @@ fn is_free(t: &[u8], mark: u8) -> bool
     ok
 }
 
-// The length of the text that a person reads; a text with a bad escape has none.
-#[derive(Clone, Copy)]
-pub enum Length {
-    BadEscape,
-    Bytes(usize),
-}
-
-// The length of a text, escape by escape: the three bytes of each stand for one.
-fn counted(q: Marks, t: &[u8]) -> Length
+// The length of the text that a person reads, escape by escape: the three bytes of each stand for one. A text with a bad escape has none.
+fn counted(q: Marks, t: &[u8]) -> Option<usize>
     ensures { Measures q t.now result }
 {
     let mut n = 0;
@@ -72,22 +65,22 @@ fn counted(q: Marks, t: &[u8]) -> Length
         n += 1;
         if t[i] == q.escape {
             if !is_escape(q, t, i) {
-                return Length::BadEscape;
+                return None;
             }
             i += 3;
         } else {
             i += 1;
         }
     }
-    Length::Bytes(n)
+    Some(n)
 }
 
 // The same: most texts have no \ at all, and are as long as they are written.
-pub fn resolved_len(q: Marks, t: &[u8]) -> Length
+pub fn resolved_len(q: Marks, t: &[u8]) -> Option<usize>
     ensures { Measures q t.now result }
 {
     if is_free(t, q.escape) {
-        return Length::Bytes(t.len());
+        return Some(t.len());
     }
     counted(q, t)
 }
@@ -115,17 +108,13 @@ pub fn put_resolved(out: &mut [u8], at: usize, q: Marks, t: &[u8]) -> usize
 }
 
 // Resolves a text with the usual separators into the buffer. Both tests are done before a byte is written.
-pub fn resolve(text: &[u8], buffer: &mut [u8]) -> Written
+pub fn resolve(text: &[u8], buffer: &mut [u8]) -> Result<usize, Refusal>
     ensures { Resolves text.now buffer.old result buffer.new }
 {
     let q = usual_marks();
-    match resolved_len(q, text) {
-        Length::BadEscape => Written::Refused(Refusal::BadEscape),
-        Length::Bytes(n) => {
-            if buffer.len() < n {
-                return Written::Refused(Refusal::NoRoom);
-            }
-            Written::Bytes(put_resolved(buffer, 0, q, text))
-        }
+    let n = resolved_len(q, text).ok_or(Refusal::BadEscape)?;
+    if buffer.len() < n {
+        return Err(Refusal::NoRoom);
     }
+    Ok(put_resolved(buffer, 0, q, text))
 }

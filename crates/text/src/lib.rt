@@ -2,6 +2,7 @@
 #![tactic(auto)]
 
 mod bytes;
+mod each;
 mod lent;
 mod marks;
 mod refusal;
@@ -11,6 +12,7 @@ mod writing;
 pub use bytes::{
     is_capital, is_capital_or_digit, is_digit, is_null, is_printable, is_same, is_text,
 };
+pub use each::every;
 pub use lent::part;
 pub use marks::{Marks, marks_of, usual_marks};
 pub use refusal::Refusal;
