@@ -10,23 +10,12 @@ ghost use Rattle.frame.specs.Told.{framing_of};
 use crate::limits;
 use crate::segment::{is_header, is_segment};
 use parts::far_end;
-use text::{Refusal, is_printable, is_same, marks_of};
+use text::{Refusal, every, is_printable, is_same, marks_of};
 
-fn is_allowed(b: u8) -> bool
-    ensures { result ≡ allowed b }
-{
-    is_printable(b) | (b == b'\r')
-}
-
-// No early way out, so that many bytes are tested at once.
 fn all_allowed(m: &[u8]) -> bool
     ensures { result ≡ every allowed m.now }
 {
-    let mut ok = true;
-    for b in m {
-        ok &= is_allowed(*b);
-    }
-    ok
+    every(m, |b| is_printable(b) | (b == b'\r'))
 }
 
 fn has_header(m: &[u8]) -> bool

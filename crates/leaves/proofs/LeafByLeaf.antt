@@ -14,7 +14,7 @@ use Rattle.text.specs.declared.marks.Marks.{Marks}
 use Rattle.text.proofs.Tests.{both}
 use Rattle.text.proofs.Lists.{or_assoc, or-false}
 use Rattle.cursor.specs.declared.Cursor.{Cursor}
-use Rattle.parts.specs.declared.Span.{Span}
+use Rattle.text.specs.declared.span.Span.{Span}
 use Rattle.parts.specs.Split.{split, piece}
 use Rattle.parts.specs.Start.{start}
 use Rattle.parts.specs.Descent.{step}

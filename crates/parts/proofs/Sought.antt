@@ -5,7 +5,7 @@ use native.Mathlib.Omega.{arith}
 use mathlib.Core.List.{List, []}
 use lib.ListN.{length, get_or, drop}
 use Rattle.text.specs.Bytes.{Text}
-use Rattle.parts.specs.declared.Span.{Span}
+use Rattle.text.specs.declared.span.Span.{Span}
 use Rattle.parts.specs.Split.{split, piece}
 use Rattle.parts.specs.Start.{before, start, reach}
 use Rattle.parts.specs.Span.{span}

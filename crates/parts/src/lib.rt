@@ -7,14 +7,7 @@ ghost use Rattle.parts.specs.Start.{start, reach};
 ghost use Rattle.text.specs.Bytes.{within};
 ghost use Rattle.parts.specs.Span.{span, part_text, part_start, mark_at_depth, number_at_depth, steps_from};
 
-use text::Marks;
-
-// The bytes from start up to, not including, end.
-#[derive(Clone, Copy)]
-pub struct Span {
-    pub start: usize,
-    pub end: usize,
-}
+use text::{Marks, Span};
 
 // The numbers that lead from a segment's fields to a leaf, each from 1.
 #[derive(Clone, Copy)]
