@@ -7,6 +7,7 @@ mod lent;
 mod marks;
 mod refusal;
 mod span;
+mod writer;
 mod writing;
 
 pub use bytes::{
@@ -17,4 +18,5 @@ pub use lent::part;
 pub use marks::{Marks, marks_of, usual_marks};
 pub use refusal::Refusal;
 pub use span::Span;
+pub use writer::Writer;
 pub use writing::{put, put_decimal};
