@@ -8,7 +8,7 @@ use mathlib.Core.List.{List, [], flat_map}
 use lib.ListN.{length, get_or}
 use lib.Dec.{ltb}
 use borrow.Author.Tests.{le-ltb}
-use Rattle.std.specs.Prelude.{Result, Ok, Err}
+use Rattle.std.proofs.Common.{◌⊎◌, inl, inr, Result, Ok, Err}
 use Rattle.text.specs.Bytes.{Text, within}
 use Rattle.text.specs.declared.marks.Marks.{Marks}
 use Rattle.frame.specs.Segments.{field, unsplit}
@@ -128,11 +128,9 @@ module _ {q : Marks} {table : List ℕ} {s : Text} {k at end : ℕ} {x : Text} (
           ∙ ap (λ (rs : List Repetition). first_broken (flat_map (repetition_checks q n o f) rs)) (sym (seen-filled (table_of table) q s u x h.text cut)))
 
       -- a field that is not required, or that is filled
-      pub judged-optional : a.surplus ≡ false → required ≡ false → ReadsFieldAt q table s at end w
-      judged-optional few y = judged-inside few (rw y)
-
-      pub judged-filled : a.surplus ≡ false → a.filled ≡ true → ReadsFieldAt q table s at end w
-      judged-filled few e = judged-inside few (and_no required (first_filled v) (sym filled_is ∙ e))
+      pub judged-found : a.surplus ≡ false → (required ≡ false) ⊎ (a.filled ≡ true) → ReadsFieldAt q table s at end w
+      judged-found few (inl y) = judged-inside few (rw y)
+      judged-found few (inr e) = judged-inside few (and_no required (first_filled v) (sym filled_is ∙ e))
 
     pub judged-missing : a.surplus ≡ false → required ≡ true → a.filled ≡ false
         → ReadsFieldAt q table s at end (Err (at_repetition Missing (get_or table (at + field_column) 0) 1))

@@ -12,7 +12,6 @@ use Rattle.cursor.specs.declared.Cursor.{Cursor}
 use Rattle.profile.specs.Numbers.{row_size, field_column, fields_before, fields_from, table_of}
 use Rattle.text.specs.declared.span.Span.{Span}
 use Rattle.codes.specs.Inner.{Under, rule_at}
-use Rattle.checks.specs.Place.{Place, place}
 use Rattle.checks.specs.View.{Field, field_seen, segment_seen}
 use Rattle.checks.specs.Fault.{Verdict, field_checks, first_broken}
 use Rattle.leaves.proofs.Breaks.{or_else, broken-append}
@@ -20,7 +19,7 @@ use Rattle.listing.specs.Listing.{HasNumber}
 use Rattle.located.proofs.FieldText.{before-field, field_at}
 use Rattle.usage.proofs.SegmentFields.{Left, seen_from, left-first, seen_all, Ahead, ahead-number, ahead-field, ahead-later, left-on, seen-on, seen_none}
 use Rattle.segments.specs.declared.Finding.{Finding}
-use Rattle.segments.specs.Judged.{told_at, at_repetition, ReadsFieldAt, ReadsSegment}
+use Rattle.segments.specs.Judged.{told_at, ReadsFieldAt, ReadsSegment}
 use Rattle.segments.proofs.FieldChecks.{FieldText}
 
 -- a segment's fields, and the first broken check of some of them

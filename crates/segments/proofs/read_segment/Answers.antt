@@ -7,7 +7,7 @@ use borrow.Author.Rules.{rules}
 use Rattle.std.proofs.lemmas.Result.{err_from_is_err_and}
 use Rattle.usage.proofs.SegmentFields.{ahead, ahead_falls}
 use Rattle.codes.proofs.Numbered.{named-number}
-use Rattle.segments.proofs.SegmentReading.{reading-first, low-number, text-there, reading-found, reading-on, reading-none}
+use Rattle.segments.proofs.SegmentReading.{reading-first, text-there, reading-found, reading-on, reading-none}
 use Rattle.segments.proofs.read_segment.Goals as goal
 
 pub rows_under-rows-requires : goal.rows_under-rows-requires
