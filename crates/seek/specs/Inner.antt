@@ -9,8 +9,7 @@ use Rattle.parts.specs.Span.{part_text, part_start}
 use Rattle.parts.specs.Span.{steps_from}
 use Rattle.checks.specs.Place.{leaf_at}
 use Rattle.checks.specs.Starts.{leaf_start}
-use Rattle.checks.specs.Shown.{Found, Empty, text_from_to, shown}
-use Rattle.seek.specs.declared.Found as code
+use Rattle.checks.specs.Shown.{Found, shown}
 
 -- a span lies in the message, and its bytes
 abbrev pub LiesIn : Span → Text → Type 0
@@ -18,11 +17,6 @@ LiesIn s m = (s.start ≤ s.end) × (s.end ≤ length m)
 
 abbrev pub segment : Span → Text → Text
 segment s m = within s.start s.end m
-
--- what each case tells
-abbrev pub leaf_told : code.Found → Found
-leaf_told code.TheVariants.Empty = Empty
-leaf_told (code.TheVariants.Text s) = text_from_to s.start s.end
 
 -- the leaf of a segment that starts at k
 abbrev pub leaf_found : Marks → Numbers → ℕ → Text → Found

@@ -9,7 +9,8 @@ ghost use Rattle.text.specs.Bytes.{Text};
 ghost use Rattle.parts.specs.Span.{span};
 ghost use Rattle.frame.specs.Segments.{is_header};
 ghost use Rattle.checks.specs.Shown.{shown};
-ghost use Rattle.seek.specs.Inner.{LiesIn, segment, leaf_told, leaf_found, leaf_behind};
+ghost use Rattle.seek.specs.Inner.{LiesIn, segment, leaf_found, leaf_behind};
+ghost use Rattle.seek.specs.Told.{found_told};
 
 use frame::{is_header, limits};
 use parts::{Numbers, descend};
@@ -25,7 +26,7 @@ pub enum Found {
 
 // A part of no bytes is Empty.
 fn between(p: Span) -> Found
-    ensures { (k : ℕ) (t : Text) → p ≡ span k t → leaf_told result ≡ shown k t }
+    ensures { (k : ℕ) (t : Text) → p ≡ span k t → found_told result ≡ shown k t }
 {
     if p.start < p.end {
         Found::Text(p)
@@ -37,7 +38,7 @@ fn between(p: Span) -> Found
 // Bytes a up to b of the segment, as far as it goes.
 fn clip(s: Span, a: usize, b: usize) -> Found
     requires { (s.start ≤ s.end) × (a < b) }
-    ensures { (t : Text) → length t ≡ min b (s.end - s.start) - a → leaf_told result ≡ shown (s.start + a) t }
+    ensures { (t : Text) → length t ≡ min b (s.end - s.start) - a → found_told result ≡ shown (s.start + a) t }
 {
     let len = s.end - s.start;
     between(Span {
@@ -49,7 +50,7 @@ fn clip(s: Span, a: usize, b: usize) -> Found
 // The leaf of the fields that begin after `skip` bytes of the segment.
 fn leaf_behind(m: &[u8], s: Span, skip: usize, q: Marks, n: Numbers) -> Found
     requires { LiesIn s m.now }
-    ensures { leaf_told result ≡ leaf_behind q n s.start skip (segment s m.now) }
+    ensures { found_told result ≡ leaf_behind q n s.start skip (segment s m.now) }
 {
     if s.end - s.start < skip {
         return Found::Empty;
@@ -61,7 +62,7 @@ fn leaf_behind(m: &[u8], s: Span, skip: usize, q: Marks, n: Numbers) -> Found
 fn header_leaf(m: &[u8], s: Span, q: Marks, n: Numbers) -> Found
     requires inside { LiesIn s m.now × (1 ≤ n.field) }
     requires of_header { is_header (segment s m.now) ≡ true }
-    ensures { leaf_told result ≡ leaf_found q n s.start (segment s m.now) }
+    ensures { found_told result ≡ leaf_found q n s.start (segment s m.now) }
 {
     if 3 <= n.field {
         let behind = Numbers {
@@ -82,7 +83,7 @@ fn header_leaf(m: &[u8], s: Span, q: Marks, n: Numbers) -> Found
 // The leaf of the segment that the numbers lead to.
 pub fn leaf(m: &[u8], s: Span, q: Marks, n: Numbers) -> Found
     requires { LiesIn s m.now × (1 ≤ n.field) }
-    ensures { leaf_told result ≡ leaf_found q n s.start (segment s m.now) }
+    ensures { found_told result ≡ leaf_found q n s.start (segment s m.now) }
 {
     if is_header(&m[s.start..s.end]) {
         return header_leaf(m, s, q, n);

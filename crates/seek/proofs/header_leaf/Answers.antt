@@ -1,7 +1,7 @@
 -- `header_leaf`: the header's fields counted their own way.
 use mathlib.Core.Bool.{not}
 use mathlib.Core.Path.{ap}
-use Rattle.seek.specs.Inner.{leaf_told}
+use Rattle.seek.specs.Told.{found_told}
 use mathlib.Core.Path.{◌∙◌}
 use lib.ListN.{take, drop}
 use Rattle.text.specs.Bytes.{within}
@@ -9,7 +9,7 @@ use Rattle.seek.proofs.Lying.{header-third, header-none, header-first, header-se
 use Rattle.seek.proofs.header_leaf.Goals as goal
 
 pub returns-then-n-ge3 : goal.returns-then-n-ge3
-returns-then-n-ge3 c = header-third c.args.q c.args.n c.args.s.start (within c.args.s.start c.args.s.end c.args.m.now) (leaf_told c.leaf_behind.result)
+returns-then-n-ge3 c = header-third c.args.q c.args.n c.args.s.start (within c.args.s.start c.args.s.end c.args.m.now) (found_told c.leaf_behind.result)
     c.requires.of_header c.if-n-ge3.true c.leaf_behind.ensures
 
 pub returns-then-not-n : goal.returns-then-not-n
