@@ -9,7 +9,7 @@ ghost use Rattle.frame.specs.Told.{framing_of};
 
 use crate::limits;
 use crate::segment::{is_header, is_segment};
-use parts::far_end;
+use parts::Ended;
 use text::{Refusal, every, is_printable, is_same, marks_of};
 
 fn all_allowed(m: &[u8]) -> bool
@@ -34,17 +34,16 @@ fn check_segments(m: &[u8]) -> Result<(), Refusal>
     let q = marks_of(m);
     let mut second = false;
     let mut count: usize = 0;
-    let mut start = 0;
-    let mut end = far_end(m, 0, b'\r');
-    while end < m.len() {
-        let s = &m[start..end];
+    let segments = Ended {
+        rest: m,
+        sep: b'\r',
+    };
+    for s in segments {
         if !is_segment(q, s) {
             return Err(Refusal::BadSegment);
         }
-        second = second | ((0 < start) & is_header(s));
+        second |= (0 < count) & is_header(s);
         count += 1;
-        start = end + 1;
-        end = far_end(m, start, b'\r');
     }
     if second {
         return Err(Refusal::SecondHeader);
