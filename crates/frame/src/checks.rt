@@ -10,7 +10,7 @@ ghost use Rattle.frame.specs.Told.{framing_of};
 use crate::limits;
 use crate::segment::{is_header, is_segment};
 use parts::Ended;
-use text::{Refusal, every, is_printable, is_same, marks_of};
+use text::{Refusal, every, is_printable, marks_of};
 
 fn all_allowed(m: &[u8]) -> bool
     ensures { result ≡ every allowed m.now }
@@ -21,10 +21,7 @@ fn all_allowed(m: &[u8]) -> bool
 fn has_header(m: &[u8]) -> bool
     ensures { result ≡ same (take header_size m.now) (header (marks_of m.now)) }
 {
-    if m.len() < limits::HEADER_SIZE {
-        return false;
-    }
-    is_same(&m[0..limits::HEADER_SIZE], b"MSH|^~\\&|")
+    m.starts_with(b"MSH|^~\\&|")
 }
 
 // BAD SEGMENT, SECOND HEADER, TOO MANY: one walk, since any bad segment comes before the other two.
@@ -58,7 +55,7 @@ fn check_segments(m: &[u8]) -> Result<(), Refusal>
 pub fn check(m: &[u8]) -> Result<(), Refusal>
     ensures { framing_of result ≡ first (frame_tests m.now) tt }
 {
-    if m.len() == 0 {
+    if m.is_empty() {
         return Err(Refusal::Empty);
     }
     if limits::LONGEST_MESSAGE < m.len() {
@@ -70,7 +67,7 @@ pub fn check(m: &[u8]) -> Result<(), Refusal>
     if !has_header(m) {
         return Err(Refusal::NoHeader);
     }
-    if m[m.len() - 1] != b'\r' {
+    if !m.ends_with(b"\r") {
         return Err(Refusal::NoEnd);
     }
     check_segments(m)
