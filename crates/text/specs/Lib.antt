@@ -10,3 +10,4 @@ pub mod Ranges
 pub mod First
 -- Inner: no entry's promise is made of this.
 pub mod Puts
+pub mod Writes

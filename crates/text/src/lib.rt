@@ -5,6 +5,7 @@ mod bytes;
 mod lent;
 mod marks;
 mod refusal;
+mod writer;
 mod writing;
 
 pub use bytes::{
@@ -13,6 +14,7 @@ pub use bytes::{
 pub use lent::part;
 pub use marks::{Marks, marks_of, usual_marks};
 pub use refusal::{Refusal, number};
+pub use writer::Writer;
 pub use writing::{put, put_decimal};
 
 // The answer of a call that writes into a lent buffer: refused, or so many bytes written.
