@@ -10,30 +10,33 @@ ghost use Rattle.text.specs.Puts.{Puts};
 ghost use Rattle.parts.specs.Split.{led};
 ghost use Rattle.reader.specs.Told.{place_of, found_of, verdict_of};
 ghost use Rattle.line.specs.Line.{refused_line, place_words, fault_line, desk_line, text_line, look_line, as_line};
-ghost use Rattle.line.specs.Inner.{look_buffer, desk_buffer, number_size, place_size, PutsWithin};
+ghost use Rattle.line.specs.Inner.{look_buffer, desk_buffer, number_size, place_size, WritesWithin};
 
 use reader::{Fault, Found, Place, Verdict, condition};
-use text::{Refusal, number, put, put_decimal};
+use text::{Refusal, Writer, number, put};
 
 // The line that tells a refusal.
 pub fn refused_line(r: Refusal, out: &mut [u8]) -> usize
     requires { look_buffer ≤ length out.old }
     ensures { Puts out.old 0 (as_line (refused_line r)) out.new result }
 {
-    let a = put(out, 0, b"refused ");
-    let b = put_decimal(out, a, number(r) as u64);
-    put(out, b, b"\n")
+    let mut w = Writer { out, at: 0 };
+    w.put(b"refused ");
+    w.put_decimal(number(r) as u64);
+    w.put(b"\n");
+    w.at
 }
 
 fn text_line(start: usize, end: usize, out: &mut [u8]) -> usize
     requires { look_buffer ≤ length out.old }
     ensures { Puts out.old 0 (as_line (text_line start end)) out.new result }
 {
-    let a = put(out, 0, b"text ");
-    let b = put_decimal(out, a, start as u64);
-    let c = put(out, b, b" ");
-    let d = put_decimal(out, c, end as u64);
-    put(out, d, b"\n")
+    let mut w = Writer { out, at: 0 };
+    w.put(b"text");
+    put_number(&mut w, start as u64);
+    put_number(&mut w, end as u64);
+    w.put(b"\n");
+    w.at
 }
 
 // The line that tells what a look-up found.
@@ -49,37 +52,38 @@ pub fn look_line(f: Found, out: &mut [u8]) -> usize
 }
 
 // A blank and a number after it.
-fn put_number(out: &mut [u8], at: usize, n: u64) -> usize
-    requires { at + number_size ≤ length out.old }
-    ensures { PutsWithin number_size out.old at (byte " " ∷ decimal n) out.new result }
+fn put_number(w: &mut Writer, n: u64)
+    requires { w.old.at + number_size ≤ length w.old.out.now }
+    ensures { WritesWithin number_size w.old (byte " " ∷ decimal n) w.new }
 {
-    let a = put(out, at, b" ");
-    put_decimal(out, a, n)
+    w.put(b" ");
+    w.put_decimal(n);
 }
 
 // A place's name and five numbers, a blank before each.
-fn put_place(out: &mut [u8], at: usize, p: Place) -> usize
-    requires { at + place_size ≤ length out.old }
-    ensures { PutsWithin place_size out.old at (led (byte " ") (place_words (place_of p))) out.new result }
+fn put_place(w: &mut Writer, p: Place)
+    requires { w.old.at + place_size ≤ length w.old.out.now }
+    ensures { WritesWithin place_size w.old (led (byte " ") (place_words (place_of p))) w.new }
 {
-    let name = [b' ', p.first, p.second, p.third];
-    let a = put(out, at, &name);
-    let b = put_number(out, a, p.occurrence);
-    let c = put_number(out, b, p.field);
-    let d = put_number(out, c, p.repetition);
-    let e = put_number(out, d, p.component);
-    put_number(out, e, p.subcomponent)
+    w.put(&[b' ', p.first, p.second, p.third]);
+    put_number(w, p.occurrence);
+    put_number(w, p.field);
+    put_number(w, p.repetition);
+    put_number(w, p.component);
+    put_number(w, p.subcomponent);
 }
 
 fn fault_line(f: Fault, out: &mut [u8]) -> usize
     requires { desk_buffer ≤ length out.old }
     ensures { Puts out.old 0 (as_line (fault_line (place_of f.place) f.reason)) out.new result }
 {
-    let a = put(out, 0, b"fault");
-    let b = put_place(out, a, f.place);
-    let c = put_number(out, b, condition(f.reason) as u64);
-    let d = put_number(out, c, f.reason as u64);
-    put(out, d, b"\n")
+    let mut w = Writer { out, at: 0 };
+    w.put(b"fault");
+    put_place(&mut w, f.place);
+    put_number(&mut w, condition(f.reason) as u64);
+    put_number(&mut w, f.reason as u64);
+    w.put(b"\n");
+    w.at
 }
 
 // The line that tells how a message is judged.

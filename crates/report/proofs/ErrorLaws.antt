@@ -10,7 +10,6 @@ use borrow.Author.Tests.{lt-ltb, le-ltb, ne_eqb, not-true, not-false}
 use Rattle.text.specs.Bytes.{Text, pick, bytes, byte, cr, empty}
 use Rattle.text.specs.Decimal.{decimal}
 use Rattle.text.specs.Ranges.{◌to◌, is_within}
-use Rattle.text.specs.Puts.{Puts}
 use Rattle.text.specs.Marks.{usual}
 use Rattle.parts.specs.Split.{led, join, closed}
 use Rattle.reader.specs.declared.Fault.{Fault}
@@ -133,23 +132,20 @@ module _ (p : code-place.Place) where
         append-nil (numbered e p.subcomponent),
       ))
 
-  pub place-length : length (place_text (place_of p))
+  pub place_length : length (place_text (place_of p))
       ≡ 3
       + (length (numbered a p.occurrence)
       + (length (numbered b p.field)
       + (length (numbered c p.repetition) + (length (numbered d p.component) + length (numbered e p.subcomponent)))))
-  place-length = ap length (sym place-written) ∙ simp length-append (omega arith)
+  place_length = ap length (sym place-written) ∙ simp length-append (omega arith)
 
 -- A CONDITION: its words told by its number
 abbrev pub words : ℕ → Text
 words k = join usual.component (decimal k ∷ condition_text k ∷ bytes "HL70357" ∷ [])
 
 module _ (n v : ℕ) {k : ℕ} (told : k ≡ condition n) (e : k ≡ v) where
-  pub condition-room : (at l : ℕ) → at + length (condition_words n) ≤ l → at + length (words v) ≤ l
-  condition-room at l h = rw (← told, e) at h
-
-  pub condition_put : {before : Text} {at : ℕ} {after : Text} {r : ℕ} → Puts before at (words v) after r → Puts before at (condition_words n) after r
-  condition_put p = rw (← told, e) p
+  pub condition_told : words v ≡ condition_words n
+  condition_told = rw (← e, told)
 
 -- what is none of the conditions is 0
 abbrev Other : ℕ → Type 0
