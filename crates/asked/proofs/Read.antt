@@ -1,5 +1,6 @@
 -- What is read of a number from where a reader stands.
 use mathlib.Core.Path.{◌≡◌, refl, ap, ◌∙◌}
+use Rattle.std.proofs.Common.{Some, None}
 use Prim.Native.Nat.{ℕ, ◌+◌, ◌*◌, ◌-◌, ◌≤◌, ◌<◌}
 use native.Mathlib.Numerals.{add-one}
 use native.Mathlib.Omega.{arith, min_cases}
@@ -11,7 +12,6 @@ use lib.Dec.{leb}
 use borrow.Author.Tests.{leb-true}
 use Rattle.text.specs.Bytes.{Text, pick, byte, digit, empty, every}
 use Rattle.text.proofs.Tests.{both, empty-none, empty-some}
-use Rattle.asked.specs.declared.Asked.TheVariants.{Bad, Number}
 use Rattle.asked.specs.Asked.{most, fitting, value_from, asked}
 
 pub digit_low : (b : ℕ) → digit b ≡ true → byte "0" ≤ b
@@ -57,17 +57,17 @@ module _ (t : Text) (n i : ℕ) (r : Read t n i) where
         value = fitting-on (drop (i + 1) t) (n * 10 + (x - byte "0")) ∙ rw d at r.value;
       }
 
-  pub read-bad : i < length t → digit (get_or t i 0) ≡ false → asked t ≡ Bad
+  pub read-bad : i < length t → digit (get_or t i 0) ≡ false → asked t ≡ None
   unfolding every asked
   read-bad h e =
       let d : drop i t ≡ get_or t i 0 ∷ drop (i + 1) t = rw (add-one i) (drop-cons t i 0 h) in
-      rw (← r.digits, d, e) (pick-bad (empty t) Bad (Number (fitting (value_from 0 t))))
+      rw (← r.digits, d, e) (pick-bad (empty t) None (Some (fitting (value_from 0 t))))
 
-  pub read_all : (length t ≡ 0 → ⊥) → length t ≤ i → asked t ≡ Number n
+  pub read_all : (length t ≡ 0 → ⊥) → length t ≤ i → asked t ≡ Some n
   unfolding every value_from asked
   read_all z h =
-      rw (← r.digits, ← r.value, drop_of_length-le t h, empty-some t z) (ap Number (omega arith))
+      rw (← r.digits, ← r.value, drop_of_length-le t h, empty-some t z) (ap Some (omega arith))
 
-pub read-empty : (t : Text) → length t ≡ 0 → asked t ≡ Bad
+pub read-empty : (t : Text) → length t ≡ 0 → asked t ≡ None
 unfolding asked
 read-empty t e = rw (empty-none t e)

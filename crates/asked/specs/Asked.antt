@@ -1,9 +1,7 @@
 -- The desk's programs promise this.
 -- A number as a program is asked for it: digits, from the left.
-use Rattle.std.specs.Prelude.{ℕ, ◌+◌, ◌*◌, ◌-◌, min, ◌||◌, not, [], ◌∷◌}
+use Rattle.std.specs.Prelude.{ℕ, ◌+◌, ◌*◌, ◌-◌, min, ◌||◌, not, [], ◌∷◌, Option, None, Some}
 use Rattle.text.specs.Bytes.{Text, pick, byte, digit, empty, every}
-use Rattle.asked.specs.declared.Asked.{Asked}
-use Rattle.asked.specs.declared.Asked.TheVariants.{Bad, Number}
 
 -- the largest number of 64 bits
 abbrev pub most : ℕ
@@ -18,6 +16,6 @@ value_from n (b ∷ t) = value_from (n * 10 + (b - byte "0")) t
 abbrev pub fitting : ℕ → ℕ
 fitting n = min most n
 
--- bad where it is empty or not all digits; else the number, or the largest where it does not fit
-unfoldable pub asked : Text → Asked
-asked t = pick (empty t || not (every digit t)) Bad (Number (fitting (value_from 0 t)))
+-- none where it is empty or not all digits; else the number, or the largest where it does not fit
+unfoldable pub asked : Text → Option ℕ
+asked t = pick (empty t || not (every digit t)) None (Some (fitting (value_from 0 t)))

@@ -8,53 +8,33 @@ ghost use Rattle.asked.specs.Asked.{fitting, asked};
 use std::env::{Env, FillError};
 use text::is_digit;
 
-// Every number above 65,535 is no place, so one that does not fit is given as the largest: the answer is the same.
-#[derive(Clone, Copy)]
-pub enum Asked {
-    Bad,
-    Number(u64),
-}
-
-const MOST: u64 = 18446744073709551615;
-
-// The number with one more digit.
+// The number with one more digit. Every number above 65,535 is no place, so one that does not fit is given as the largest: the answer is the same.
 fn with_digit(n: u64, b: u8) -> u64
     requires { byte "0" ≤ b }
     ensures { result ≡ fitting (n * 10 + (b - byte "0")) }
 {
-    let d = (b - b'0') as u64;
-    if (MOST - d) / 10 < n {
-        return MOST;
-    }
-    n * 10 + d
+    n.saturating_mul(10).saturating_add(u64::from(b - b'0'))
 }
 
-// The number that an argument writes: bad where it is empty or not all digits.
-pub fn asked_number(t: &[u8]) -> Asked
+// The number that an argument writes: none where it is empty or not all digits.
+pub fn asked_number(t: &[u8]) -> Option<u64>
     ensures { result ≡ asked t.now }
 {
-    if t.len() == 0 {
-        return Asked::Bad;
+    if t.is_empty() {
+        return None;
     }
     let mut n = 0;
-    let mut i = 0;
-    while i < t.len() {
-        let b = t[i];
-        if !is_digit(b) {
-            return Asked::Bad;
+    for b in t {
+        if !is_digit(*b) {
+            return None;
         }
-        n = with_digit(n, b);
-        i += 1;
+        n = with_digit(n, *b);
     }
-    Asked::Number(n)
+    Some(n)
 }
 
 // Room for the longest argument: Linux hands a program for x86-64 none of more than 131,071 bytes.
-fn longest_word() -> [u8; 131072]
-    ensures { 131072 ≡ length result }
-{
-    [0; 131072]
-}
+const LONGEST_ARGUMENT: usize = 131072;
 
 // How many arguments the program was started with, its own name among them.
 pub fn argument_count(rt: &impl Env) -> usize {
@@ -66,16 +46,15 @@ pub fn argument_count(rt: &impl Env) -> usize {
     usize::MAX
 }
 
-// Puts the program's argument i to the front of `out`, and answers how many bytes it has: none where it is missing or longer than `out`.
-pub fn argument(rt: &impl Env, i: usize, out: &mut [u8]) -> usize
-    ensures { result ≤ length out.new }
+// The program's argument i, which comes to the front of `out`: no bytes where it is missing or longer than `out`.
+pub fn argument<'a>(rt: &impl Env, i: usize, out: &'a mut [u8]) -> &'a [u8]
+    ensures { length result.now ≤ length out.old }
 {
-    rt.arg(i, out).unwrap_or(0)
+    let n = rt.arg(i, out).unwrap_or(0);
+    &out[..n]
 }
 
 // The number that the program's argument i writes.
-pub fn number_at(rt: &impl Env, i: usize) -> Asked {
-    let mut word = longest_word();
-    let n = argument(rt, i, &mut word);
-    asked_number(&word[..n])
+pub fn number_at(rt: &impl Env, i: usize) -> Option<u64> {
+    asked_number(argument(rt, i, &mut [0; LONGEST_ARGUMENT]))
 }

@@ -1,3 +1,4 @@
+pub mod ReasonNumbers
 pub mod Leaf
 pub mod Stands
 pub mod Filled

@@ -4,6 +4,7 @@ pub mod Shown
 pub mod LookUp
 pub mod View
 pub mod Fault
+pub mod Reasons
 -- A demand is said with this.
 pub mod First
 -- No entry's promise is made of these: theorems about the definitions, and cases that try them.

@@ -13,7 +13,7 @@ use Rattle.text.specs.Bytes.{Text, is_one, within}
 use Rattle.text.proofs.Tests.{both}
 use Rattle.profile.specs.Numbers.{code_lists, is_in_list, begin}
 use Rattle.codes.specs.Inner.{AreListed}
-use Rattle.codes.specs.declared.lists.CodeRange.{CodeRange}
+use Rattle.text.specs.declared.span.Span.{Span}
 use Rattle.profile.specs.Codes.{codes_behind, codes_from, are_whole, are_codes, list_count, list_at, lists_from, is_whole_list, are_whole_lists, AreLists, lists_begin, lists_in, HasLists}
 
 -- THE LISTS BY THEIR NUMBERS
@@ -72,7 +72,7 @@ module _ (lists : List ℕ) (has : AreLists lists) where
       record { inside = omega arith; whole = refl; codes = λ reason. rw (get_or-eq_default code_lists [] {n = i} l) }
 
 -- a text that is one of a list's codes
-pub in_list : (lists : List ℕ) (n : ℕ) (r : CodeRange) (s : Text) → AreListed lists n r → (n ≡ 0 → ⊥) → is_one s (codes_from (within r.start r.end lists)) ≡ is_in_list n s
+pub in_list : (lists : List ℕ) (n : ℕ) (r : Span) (s : Text) → AreListed lists n r → (n ≡ 0 → ⊥) → is_one s (codes_from (within r.start r.end lists)) ≡ is_in_list n s
 in_list lists zero r s a h = absurd (h refl)
 in_list lists (suc i) r s a h = rw (a.codes 0)
 

@@ -1,95 +1,18 @@
 -- Laws of the numbers of names and types.
-use mathlib.Core.Path.{◌≡◌, refl, sym, ap, ◌∙◌}
-use Prim.Native.Nat.{ℕ, suc, ◌+◌, ◌*◌, ◌-◌, ◌≤◌, ◌<◌}
+use mathlib.Core.Path.{◌≡◌, refl, sym, ◌∙◌}
+use Prim.Native.Nat.{ℕ, suc, ◌+◌, ◌-◌, ◌≤◌, ◌<◌}
 use native.Mathlib.Omega.{arith}
-use mathlib.Core.Bool.{Bool, true, false, ◌&&◌}
+use mathlib.Core.Bool.{Bool, true, false}
 use mathlib.Core.List.{List, [], ◌∷◌}
 use lib.ListN.{length, get_or}
 use lib.Dec.{eqb}
-use borrow.Author.Tests.{eq-eqb, ne_eqb, eqb-true, eqb-false}
+use borrow.Author.Tests.{ne_eqb, eqb-true, eqb-false}
 use Rattle.text.specs.Bytes.{Text, pick, bytes, same}
 use Rattle.text.proofs.Tests.{same_true, same_self, same_length}
-use Rattle.text.proofs.Lists.{All, and-true}
+use Rattle.text.proofs.Lists.{All}
 use Rattle.profile.specs.Table.{SI, NM, DTM, TM, ST, TX, FT, ID, IS, of_type, no_such_day}
 use Rattle.profile.specs.Lists.{value-types}
 use Rattle.profile.specs.Numbers.{segment_names, simple_of, number_in, segment_number, type_number}
-
--- equality is tested either way round
-eqb_turned : (a b : ℕ) (x : Bool) → eqb a b ≡ x → eqb b a ≡ x
-eqb_turned a b true e = eq-eqb b a (sym (eqb-true a b e))
-eqb_turned a b false e = ne_eqb b a (λ h. eqb-false a b e (sym h))
-
-eqb-sym : (a b : ℕ) → eqb a b ≡ eqb b a
-eqb-sym a b = eqb_turned b a (eqb b a) refl
-
-pub same-sym : (s t : Text) → same s t ≡ same t s
-unfolding same
-same-sym [] [] = refl
-same-sym [] (y ∷ t) = refl
-same-sym (x ∷ s) [] = refl
-same-sym (x ∷ s) (y ∷ t) = rw (eqb-sym x y, same-sym s t)
-
--- names of two letters, letter by letter
-same-two : (x y a b : ℕ) → same (x ∷ y ∷ []) (a ∷ b ∷ []) ≡ (eqb a x && eqb b y)
-unfolding same
-same-two x y a b = rw (eqb-sym x a, eqb-sym y b, and-true (eqb b y))
-
--- THE NUMBER of a segment's name: its three bytes are told by one number
-abbrev packed : Text → ℕ
-packed n = get_or n 0 0 * 65536 + get_or n 1 0 * 256 + get_or n 2 0
-
-module _ (a b c : ℕ) where
-  pub packed-same : (b < 256) × (c < 256) → (x y z : ℕ) → (y < 256) × (z < 256) → packed (a ∷ b ∷ c ∷ []) ≡ packed (x ∷ y ∷ z ∷ [])
-      → segment_number (x ∷ y ∷ z ∷ []) ≡ segment_number (a ∷ b ∷ c ∷ [])
-  packed-same h x y z l e =
-      let i : a ≡ x = omega (arith, e) in
-      let j : b ≡ y = omega (arith, e) in
-      let k : c ≡ z = omega (arith, e) in
-      rw (i, j, k)
-
-  other_step : (n : Text) (s : Bool) → same n (a ∷ b ∷ c ∷ []) ≡ s → (packed (a ∷ b ∷ c ∷ []) ≡ packed n → ⊥) → s ≡ false
-  other_step n true e h = absurd (h (ap packed (sym (same_true n (a ∷ b ∷ c ∷ []) e))))
-  other_step n false e h = refl
-
-  other : (n : Text) → (packed (a ∷ b ∷ c ∷ []) ≡ packed n → ⊥) → same n (a ∷ b ∷ c ∷ []) ≡ false
-  other n h = other_step n (same n (a ∷ b ∷ c ∷ [])) refl h
-
-  pub packed-other : All (λ n. packed (a ∷ b ∷ c ∷ []) ≡ packed n → ⊥) segment_names → 0 ≡ segment_number (a ∷ b ∷ c ∷ [])
-  unfolding number_in
-  packed-other h =
-      rw (other (bytes "MSH") h.0, other (bytes "PID") h.1.0, other (bytes "NK1") h.1.1.0, other (bytes "ORC") h.1.1.1.0, other (bytes "OBR") h.1.1.1.1.0, other (bytes "OBX") h.1.1.1.1.1.0, other (bytes "NTE") h.1.1.1.1.1.1.0)
-
--- and of a type's
-pub two-number : (a b : ℕ)
-    → type_number (a ∷ b ∷ [])
-    ≡ pick (eqb a 67 && eqb b 69) 8
-    (pick (eqb a 70 && eqb b 84) 10
-    (pick (eqb a 78 && eqb b 77) 11
-    (pick (eqb a 83 && eqb b 78) 12
-    (pick (eqb a 83 && eqb b 84) 13
-    (pick (eqb a 84 && eqb b 77) 14
-    (pick (eqb a 84 && eqb b 88) 15 16))))))
-unfolding number_in
-two-number a b =
-    rw (same-two 67 69 a b, same_length (bytes "DTM") (a ∷ b ∷ []) (λ e. omega (arith, e)), same-two 70 84 a b, same-two 78 77 a b, same-two 83 78 a b, same-two 83 84 a b, same-two 84 77 a b, same-two 84 88 a b)
-
--- a text of two bytes, and one of another length
-pub two_bytes : (s : Text) (r : ℕ) → length s ≡ 2 → r ≡ type_number (get_or s 0 0 ∷ get_or s 1 0 ∷ []) → r ≡ type_number s
-two_bytes [] r l e = absurd (omega arith)
-two_bytes (a ∷ []) r l e = absurd (omega arith)
-two_bytes (a ∷ b ∷ []) r l e = e
-two_bytes (a ∷ b ∷ c ∷ s) r l e = absurd (omega arith)
-
-module _ (s : Text) where
-  pub dtm_number : same s (bytes "DTM") ≡ true → 9 ≡ type_number s
-  unfolding number_in same
-  dtm_number e = rw (same_true s (bytes "DTM") e)
-
-  pub other-number : (length s ≡ 2 → ⊥) → same s (bytes "DTM") ≡ false → 16 ≡ type_number s
-  unfolding number_in
-  other-number l e =
-      let not-two : (a b : ℕ) → same (a ∷ b ∷ []) s ≡ false = λ a b. same_length (a ∷ b ∷ []) s (λ h. l (sym h)) in
-      rw (not-two 67 69, same-sym (bytes "DTM") s, e, not-two 70 84, not-two 78 77, not-two 83 78, not-two 83 84, not-two 84 77, not-two 84 88)
 
 -- TYPES that take any text
 any-text : (a b c d : Bool) (t : Text) → true ≡ of_type (pick a ST (pick b TX (pick c FT (pick d ID IS)))) t

@@ -18,7 +18,7 @@ use Rattle.profile.specs.Numbers.{segment_names, leaf_of, row_of, rows_within, b
 use Rattle.profile.specs.Order.{of_field, guides, Sound}
 use Rattle.profile.specs.Codes.{HasLists}
 use Rattle.codes.specs.Inner.{Ascends, SureUpTo, Under, Lists, leaves_named}
-use Rattle.codes.specs.declared.rows.Rows.{Rows}
+use Rattle.text.specs.declared.span.Span.{Span}
 use Rattle.codes.proofs.Numbered.{type_number_range}
 use Rattle.codes.proofs.RowSteps.{rows_next}
 use Rattle.codes.proofs.Stretch.{under_whole}
@@ -60,7 +60,7 @@ all-field f (x ∷ l) e =
     let h = both (in_field f x) (every (in_field f) l) e in
     rw (h.0, all-field f l h.1)
 
-type-sure : (table : List ℕ) (k : ℕ) (r : Rows) → first_type ≤ k → Under table k r → 1 ≤ get_or table (r.start + sure_column) 0
+type-sure : (table : List ℕ) (k : ℕ) (r : Span) → first_type ≤ k → Under table k r → 1 ≤ get_or table (r.start + sure_column) 0
     → SureUpTo (get_or table (r.start + sure_column) 0) (map leaf_of (under k table))
 unfolding every
 type-sure table k r h u some =
@@ -74,7 +74,7 @@ type-sure table k r h u some =
     let n : get_or x sure_column 0 ≡ get_or table (r.start + sure_column) 0 = get_or-drop r.start table sure_column 0 in
     rw (is, ← n) (sure-leaves x rs (sure-rows x rs (x ∷ rs) [] guided (sym (append-nil (x ∷ rs))) count (rw n some)))
 
-pub type-lists : (table : List ℕ) (x : Text) (k : ℕ) (r : Rows) → HasLists table → k ≡ type_number x → Under table k r → Lists table r (leaves_named table x)
+pub type-lists : (table : List ℕ) (x : Text) (k : ℕ) (r : Span) → HasLists table → k ≡ type_number x → Under table k r → Lists table r (leaves_named table x)
 type-lists table x k r c e u =
     let named : map leaf_of (under k table) ≡ leaves_named table x = ap (λ (j : ℕ). leaves_under j table) e ∙ sym (named-leaves table x) in
     record {

@@ -48,7 +48,7 @@ pub record Next (x : ℕ) (xs : List ℕ) : Type 0 where
   pub behind : BytesBehind (following x) xs
   pub codes : codes_from (x ∷ xs) ≡ (leading_byte x ∷ take (following x) xs) ∷ codes_from (drop (following x) xs)
 
-next-code : (x : ℕ) (xs : List ℕ) → are_codes (x ∷ xs) ≡ true → Next x xs
+pub next-code : (x : ℕ) (xs : List ℕ) → are_codes (x ∷ xs) ≡ true → Next x xs
 unfolding are_whole codes_behind
 next-code x xs e =
     let h = both (ltb (following x) longest_code) (are_whole (following x) xs) e in

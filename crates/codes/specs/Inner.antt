@@ -6,11 +6,10 @@ use Rattle.profile.specs.Table.{Leaf, Rule, type_leaves}
 use Rattle.profile.specs.Numbers.{codes_in, codes_of, row_size, segment_column, field_column, usage_column, repetitions_column, sure_column, leaf_of, listed_of, usage_of, rows_within, under, table_of}
 use Rattle.profile.specs.Order.{reason_fits, same_field, are_of, Ordered, guides, takes_up_to}
 use Rattle.profile.specs.Codes.{codes_from, are_codes, HasLists}
-use Rattle.codes.specs.declared.rows.Rows.{Rows}
-use Rattle.codes.specs.declared.lists.CodeRange.{CodeRange}
+use Rattle.text.specs.declared.span.Span.{Span}
 
 -- the leaves that rows list
-abbrev pub leaves_at : List ℕ → Rows → List Leaf
+abbrev pub leaves_at : List ℕ → Span → List Leaf
 leaves_at table r = map leaf_of (rows_within r.start r.end table)
 
 -- leaves whose components rise from k on, each with a reason from 1 to 12 where it has a list
@@ -41,7 +40,7 @@ rule_at table at end =
     }
 
 -- the rows under a number, and those that list the leaves of the type named so
-pub record Under (table : List ℕ) (k : ℕ) (r : Rows) : Type 0 where
+pub record Under (table : List ℕ) (k : ℕ) (r : Span) : Type 0 where
   pub some : r.start + row_size ≤ r.end
   pub inside : r.end ≤ length table
   pub rows : rows_within r.start r.end table ≡ under k table
@@ -49,7 +48,7 @@ pub record Under (table : List ℕ) (k : ℕ) (r : Rows) : Type 0 where
   pub numbered : are_of k (under k table) ≡ true
   pub guided : guides r.start (under k table) ≡ true
 
-pub record Lists (table : List ℕ) (r : Rows) (ls : List Leaf) : Type 0 where
+pub record Lists (table : List ℕ) (r : Span) (ls : List Leaf) : Type 0 where
   pub some : r.start + row_size ≤ r.end
   pub inside : r.end ≤ length table
   pub leaves : leaves_at table r ≡ ls
@@ -61,7 +60,7 @@ abbrev pub leaves_named : List ℕ → Text → List Leaf
 leaves_named table n = type_leaves (table_of table).types (table_of table).otherwise n
 
 -- the codes of the list with that number, whatever its reason
-pub record AreListed (lists : List ℕ) (n : ℕ) (r : CodeRange) : Type 0 where
+pub record AreListed (lists : List ℕ) (n : ℕ) (r : Span) : Type 0 where
   pub inside : r.end ≤ length lists
   pub whole : are_codes (within r.start r.end lists) ≡ true
   pub codes : (reason : ℕ) → codes_from (within r.start r.end lists) ≡ codes_in (codes_of n reason)

@@ -4,7 +4,6 @@ ghost use Rattle.profile.specs.Table.{of_type};
 ghost use Rattle.profile.specs.Numbers.{simple_of, segment_number, type_number};
 
 use profile::numbers;
-use text::is_same;
 use types::{is_dtm, is_nm, is_si, is_tm};
 
 // Whether a text is of the simple type with that number.
@@ -20,60 +19,37 @@ pub fn is_of_type(n: u16, s: &[u8]) -> bool
     }
 }
 
-// The number of the type that two letters name.
-fn two_letter_type(a: u8, b: u8) -> u16
-    ensures { result ≡ type_number (a ∷ b ∷ []) }
-{
-    if (a == b'C') & (b == b'E') {
-        return numbers::AS_CE;
-    }
-    if (a == b'F') & (b == b'T') {
-        return numbers::AS_FT;
-    }
-    if (a == b'N') & (b == b'M') {
-        return numbers::AS_NM;
-    }
-    if (a == b'S') & (b == b'N') {
-        return numbers::AS_SN;
-    }
-    if (a == b'S') & (b == b'T') {
-        return numbers::AS_ST;
-    }
-    if (a == b'T') & (b == b'M') {
-        return numbers::AS_TM;
-    }
-    if (a == b'T') & (b == b'X') {
-        return numbers::AS_TX;
-    }
-    numbers::AS_NONE
-}
-
 // The number of the type that a text names, 16 where it names none.
+#[tactic(auto, unfolding(profile::specs::Numbers::number_in, text::specs::Bytes::same))]
 pub fn type_number(s: &[u8]) -> u16
     ensures { result ≡ type_number s.now }
 {
-    if s.len() == 2 {
-        return two_letter_type(s[0], s[1]);
+    match s {
+        b"CE" => numbers::AS_CE,
+        b"DTM" => numbers::AS_DTM,
+        b"FT" => numbers::AS_FT,
+        b"NM" => numbers::AS_NM,
+        b"SN" => numbers::AS_SN,
+        b"ST" => numbers::AS_ST,
+        b"TM" => numbers::AS_TM,
+        b"TX" => numbers::AS_TX,
+        _ => numbers::AS_NONE,
     }
-    if is_same(s, b"DTM") {
-        return numbers::AS_DTM;
-    }
-    numbers::AS_NONE
 }
 
 // The number of the segment with that name, 0 where none is listed.
+#[tactic(auto, unfolding(profile::specs::Numbers::number_in, text::specs::Bytes::same))]
 pub fn segment_number(a: u8, b: u8, c: u8) -> u16
     ensures { result ≡ segment_number (a ∷ b ∷ c ∷ []) }
 {
-    let name = (a as u32) * 65536 + (b as u32) * 256 + c as u32;
-    match name {
-        0x4D5348 => numbers::MSH,
-        0x504944 => numbers::PID,
-        0x4E4B31 => numbers::NK1,
-        0x4F5243 => numbers::ORC,
-        0x4F4252 => numbers::OBR,
-        0x4F4258 => numbers::OBX,
-        0x4E5445 => numbers::NTE,
+    match &[a, b, c] {
+        b"MSH" => numbers::MSH,
+        b"PID" => numbers::PID,
+        b"NK1" => numbers::NK1,
+        b"ORC" => numbers::ORC,
+        b"OBR" => numbers::OBR,
+        b"OBX" => numbers::OBX,
+        b"NTE" => numbers::NTE,
         _ => numbers::UNLISTED,
     }
 }

@@ -6,5 +6,5 @@ mod lists;
 mod rows;
 
 pub use codes::{is_of_type, segment_number};
-pub use lists::{CodeRange, is_in_list, is_one_of, list_codes};
-pub use rows::{Rows, next_field, rows_under, type_rows};
+pub use lists::{is_in_list, is_one_of, list_codes};
+pub use rows::{next_field, rows_under, type_rows};

@@ -1,47 +1,34 @@
 // The lists of codes, which stand in a table by themselves. Inner: the callers hold that they are 01's.
-ghost use Rattle.std.specs.Prelude.{◌≡◌, true, ◌+◌, ◌≤◌, length, drop};
+ghost use Rattle.std.specs.Prelude.{◌≡◌, true, ◌≤◌, length};
 ghost use Rattle.text.specs.Bytes.{same, is_one, within};
 ghost use Rattle.profile.specs.Numbers.{is_in_list};
 ghost use Rattle.profile.specs.Codes.{codes_from, are_codes, AreLists};
 ghost use Rattle.codes.specs.Inner.{AreListed};
 
 use profile::{columns, numbers};
-
-// Codes that follow one another: where the first begins and the last ends.
-#[derive(Clone, Copy)]
-pub struct CodeRange {
-    pub start: usize,
-    pub end: usize,
-}
+use text::Span;
 
 // The codes of the list with that number: none where there is no such list.
-pub fn list_codes(lists: &[u16], n: u16) -> CodeRange
+pub fn list_codes(lists: &[u16], n: u16) -> Span
     requires { AreLists lists.now }
     ensures { AreListed lists.now n result }
 {
     if (n == numbers::ANY) | (lists[0] < n) {
-        return CodeRange { start: 0, end: 0 };
+        return Span { start: 0, end: 0 };
     }
     let i = n as usize;
-    CodeRange {
+    Span {
         start: lists[i] as usize,
         end: lists[i + 1] as usize,
     }
 }
 
-// Whether the bytes of a text after its first are those that follow the first number of a code.
-fn follows(codes: &[u16], at: usize, s: &[u8]) -> bool
-    requires { (1 ≤ length s.now) × (at + length s.now ≤ length codes.now) }
-    ensures { result ≡ same (drop 1 s.now) (within (at + 1) (at + length s.now) codes.now) }
+// Whether the numbers that follow the first of a code are these bytes.
+fn follows(rest: &[u16], s: &[u8]) -> bool
+    requires { length rest.now ≡ length s.now }
+    ensures { result ≡ same s.now rest.now }
 {
-    let mut i = 1;
-    while i < s.len() {
-        if codes[at + i] != s[i] as u16 {
-            return false;
-        }
-        i += 1;
-    }
-    true
+    rest.iter().zip(s).all(|(code, byte)| *code == *byte as u16)
 }
 
 // Whether a text is one of the codes that stand from one place up to another. A code's first number tells its first byte and its length at once.
@@ -53,15 +40,14 @@ pub fn is_one_of(codes: &[u16], start: usize, end: usize, s: &[u8]) -> bool
         return false;
     }
     let first = (s.len() - 1) * 256 + s[0] as usize;
-    let mut at = start;
-    while at < end {
-        let number = codes[at] as usize;
-        if number == first {
-            if follows(codes, at, s) {
-                return true;
-            }
+    let mut left = codes.get(start..end).unwrap_or(&[]);
+    while let Some((number, rest)) = left.split_first() {
+        let number = *number as usize;
+        let (code, others) = rest.split_at(number / 256);
+        if number == first && follows(code, &s[1..]) {
+            return true;
         }
-        at = at + 1 + number / 256;
+        left = others;
     }
     false
 }

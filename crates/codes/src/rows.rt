@@ -6,21 +6,15 @@ ghost use Rattle.codes.specs.Inner.{Under, Lists, leaves_named};
 
 use crate::codes::type_number;
 use profile::columns;
-
-// Rows that follow one another: where the first begins and the last ends.
-#[derive(Clone, Copy)]
-pub struct Rows {
-    pub start: usize,
-    pub end: usize,
-}
+use text::Span;
 
 // The rows under a number.
-pub fn rows_under(table: &[u16], k: u16) -> Rows
+pub fn rows_under(table: &[u16], k: u16) -> Span
     requires { Sound table.now × ((1 ≤ k) × (k ≤ no_type)) }
     ensures { Under table.now k result }
 {
     let i = k as usize;
-    Rows {
+    Span {
         start: table[i] as usize,
         end: table[i + 1] as usize,
     }
@@ -35,7 +29,7 @@ pub fn next_field(table: &[u16], at: usize) -> usize
 }
 
 // The rows of the type that a text names, or those where it names none.
-pub fn type_rows(table: &[u16], name: &[u8]) -> Rows
+pub fn type_rows(table: &[u16], name: &[u8]) -> Span
     requires { Sound table.now }
     ensures { Lists table.now result (leaves_named table.now name.now) }
 {

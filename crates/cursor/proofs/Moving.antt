@@ -11,7 +11,7 @@ use lib.Dec.{eqb}
 use Rattle.text.specs.Bytes.{Text, pick, within}
 use Rattle.cursor.specs.declared.Cursor.{Cursor}
 use Rattle.parts.specs.Split.{front, split, piece}
-use Rattle.parts.specs.Start.{before, start, reach}
+use Rattle.parts.specs.Start.{before, reach}
 use Rattle.cursor.specs.Cursor.{IsPiece}
 use Rattle.parts.proofs.Split.{later-step, piece_le, before_le, before-first}
 use Rattle.parts.proofs.Descent.{within-piece}

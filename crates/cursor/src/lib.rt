@@ -21,9 +21,10 @@ fn end_from(t: &[u8], from: usize, sep: u8, far: bool) -> usize
     ensures { result ≡ from + reach sep (drop from t.now) }
 {
     if far {
-        return piece_end(t, from, sep);
+        piece_end(t, from, sep)
+    } else {
+        near_end(t, from, sep)
     }
-    near_end(t, from, sep)
 }
 
 // At the first piece.
@@ -42,10 +43,9 @@ pub fn advance(t: &[u8], sep: u8, far: bool, at: Cursor, n: u64) -> Cursor
     requires { IsPiece sep t.now at × (at.number ≤ n) }
     ensures { IsPiece sep t.now result × (result.number ≡ n) }
 {
-    let mut number = at.number;
     let mut start = at.start;
     let mut end = at.end;
-    while number < n {
+    for _ in at.number..n {
         if t.len() <= end {
             return Cursor {
                 number: n,
@@ -55,7 +55,10 @@ pub fn advance(t: &[u8], sep: u8, far: bool, at: Cursor, n: u64) -> Cursor
         }
         start = end + 1;
         end = end_from(t, start, sep, far);
-        number += 1;
     }
-    Cursor { number, start, end }
+    Cursor {
+        number: n,
+        start,
+        end,
+    }
 }

@@ -1,12 +1,12 @@
 -- Laws of what stands from a piece on, and from a field on.
-use mathlib.Core.Path.{◌≡◌, refl, sym, ap, ◌∙◌}
+use mathlib.Core.Path.{◌≡◌, refl, sym, ◌∙◌}
 use Prim.Native.Nat.{ℕ, zero, suc, ◌+◌, ◌-◌, ◌≤◌, ◌<◌}
-use native.Mathlib.Nat.{zero-sub, sub-zero, suc-sub-suc}
+use native.Mathlib.Nat.{sub-zero}
 use native.Mathlib.Omega.{arith}
 use mathlib.Core.Bool.{Bool, true, false, ◌&&◌}
-use mathlib.Core.List.{[], ◌∷◌}
-use lib.ListN.{length, get_or, take, drop, drop_of_length-le, length-drop}
-use lib.Seq.{take-nil, take-length, take_all}
+use mathlib.Core.List.{[]}
+use lib.ListN.{length, get_or, take, drop, length-drop}
+use lib.Seq.{take-length}
 use borrow.Author.Tests.{le-leb, lt-leb, leb-false, ne_eqb}
 use lib.Dec.{eqb, leb}
 use Rattle.text.specs.Bytes.{Text, pick, within}
@@ -29,19 +29,19 @@ module _ (sep : ℕ) (t : Text) (e : ℕ) (ends : e ≡ 0 + reach sep t) where
   pub first-inside : e ≤ length t
   first-inside = omega (arith, ends, reach_le sep t)
 
-  pub first-bytes : within 0 e t ≡ piece 1 (split sep t)
-  first-bytes = within-piece t sep 1 0 e (sym (before-first sep t)) (omega (arith, ends, first-length sep t))
+  pub first-bytes : take e t ≡ piece 1 (split sep t)
+  first-bytes = rw sub-zero at (within-piece t sep 1 0 e (sym (before-first sep t)) (omega (arith, ends, first-length sep t)))
 
 -- WHAT STANDS AFTER SEPARATORS, told from where a loop stands that has `left` of them to pass
 abbrev pub Left : ℕ → Text → ℕ → ℕ → ℕ → Type 0
 Left sep t n left from = (i : ℕ) → get_or (split sep (drop from t)) (left + i) [] ≡ get_or (split sep t) (n + i) []
 
 module _ (sep : ℕ) (t : Text) (n from to : ℕ) (inside : from ≤ length t) (ends : to ≡ from + reach sep (drop from t)) where
-  pub left-on : (left : ℕ) → 0 < left → to < length t → Left sep t n left from → Left sep t n (left - 1) (to + 1)
-  left-on zero l more h = absurd (omega arith)
-  left-on (suc k) l more h =
-      let e : suc k - 1 ≡ k = omega arith in
-      rw e (λ i. let d : suc k + i ≡ suc (k + i) = omega arith in rw (d, split-on sep t from to inside ends more) at (h i))
+  pub left-on : (left rest : ℕ) → left ≡ rest + 1 → to < length t → Left sep t n left from → Left sep t n rest (to + 1)
+  left-on zero rest e more h = absurd (omega arith)
+  left-on (suc k) rest e more h =
+      let r : rest ≡ k = omega arith in
+      rw r (λ i. let d : suc k + i ≡ suc (k + i) = omega arith in rw (d, split-on sep t from to inside ends more) at (h i))
 
   pub left-none : (left : ℕ) → 0 < left → length t ≤ to → Left sep t n left from → Behind sep n t []
   left-none zero l none h = absurd (omega arith)
@@ -53,23 +53,11 @@ left-done sep t n left from l h =
     let z : left ≡ 0 = omega arith in
     λ i. let d : 0 + i ≡ i = omega arith in rw (z, d) at (h i)
 
--- a text from a byte on, or between two
-pub rest-none : (s : Text) (k : ℕ) → length s < k → [] ≡ drop k s
-rest-none s k h = sym (drop_of_length-le s {i = k} (omega arith))
-
+-- a text from a byte on
 pub rest_all : (s : Text) (k : ℕ) → k ≤ length s → within k (length s) s ≡ drop k s
 rest_all s k h =
     let e : length s - k ≡ length (drop k s) = omega (arith, length-drop k s) in
     rw e (take-length (drop k s))
-
-pub clip_short : (s : Text) (a b : ℕ) → length s < b → drop a s ≡ drop a (take b s)
-clip_short s a b h = ap (drop a) (sym (take_all b s (omega arith)))
-
-pub clip_between : (a b : ℕ) (s : Text) → within a b s ≡ drop a (take b s)
-clip_between zero b s = rw sub-zero
-clip_between (suc a) zero s = rw zero-sub
-clip_between (suc a) (suc b) [] = rw (take-nil (suc b - suc a))
-clip_between (suc a) (suc b) (x ∷ s) = rw suc-sub-suc (clip_between a b s)
 
 -- MSH-1 AND MSH-2: unsplit, and Empty beyond the first leaf
 module _ (s : Text) (e : is_header s ≡ true) (f c : ℕ) (low : f ≤ 2) (q : Marks) where

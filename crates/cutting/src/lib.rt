@@ -17,23 +17,21 @@ use text::Marks;
 fn first_piece<'a>(t: &'a [u8], sep: u8) -> &'a [u8]
     ensures { result.now ≡ piece 1 (split sep t.now) }
 {
-    let end = near_end(t, 0, sep);
-    &t[0..end]
+    &t[..near_end(t, 0, sep)]
 }
 
 // What stands after so many separators: no bytes where there are fewer.
+// What is not there is no bytes and no None, here and below, since the definitions say it so (`piece`, `leaf_at`, `Behind`) and Empty reads the same.
 pub fn behind<'a>(t: &'a [u8], sep: u8, n: u64) -> &'a [u8]
     ensures { Behind sep n t.now result.now }
 {
-    let mut left = n;
     let mut from = 0;
-    while 0 < left {
+    for _ in 0..n {
         let to = near_end(t, from, sep);
         if t.len() <= to {
-            return &t[0..0];
+            return &[];
         }
         from = to + 1;
-        left -= 1;
     }
     &t[from..]
 }
@@ -42,21 +40,14 @@ pub fn behind<'a>(t: &'a [u8], sep: u8, n: u64) -> &'a [u8]
 fn skip<'a>(s: &'a [u8], k: usize) -> &'a [u8]
     ensures { result.now ≡ drop k s.now }
 {
-    if s.len() < k {
-        return &s[0..0];
-    }
-    &s[k..]
+    &s[k.min(s.len())..]
 }
 
 // Bytes a up to b, as far as the text goes.
 fn clip<'a>(s: &'a [u8], a: usize, b: usize) -> &'a [u8]
-    requires { a ≤ b }
     ensures { result.now ≡ drop a (take b s.now) }
 {
-    if s.len() < b {
-        return skip(s, a);
-    }
-    &s[a..b]
+    skip(&s[..b.min(s.len())], a)
 }
 
 // What stands of a segment from a field on. Inner: the callers hold that the field is one that is split.
@@ -101,7 +92,7 @@ fn unsplit_leaf<'a>(s: &'a [u8], field: u64, component: u64) -> &'a [u8]
     ensures { (q : Marks) → result.now ≡ leaf_at q s.now field 1 component 1 }
 {
     if component != 1 {
-        return &s[0..0];
+        return &[];
     }
     if field == 1 {
         return clip(s, 3, 4);
@@ -118,7 +109,7 @@ pub fn leaf_text<'a>(s: &'a [u8], q: Marks, field: u64, component: u64) -> &'a [
         return unsplit_leaf(s, field, component);
     }
     if component == 0 {
-        return &s[0..0];
+        return &[];
     }
     let t = first_repetition(fields_from(s, q, field), q);
     first_leaf(behind(t, q.component, component - 1), q)

@@ -1,32 +1,29 @@
 -- Laws of escapes: what a reader from the left finds at the end, at a byte that is no \, and at a \.
 use mathlib.Core.Path.{◌≡◌, refl, sym, ap, subst, ◌∙◌}
+use Rattle.std.proofs.Common.{Option, Some, None, ok_or, Result, Ok, Err}
 use Prim.Native.Nat.{ℕ, zero, suc, ◌+◌, ◌*◌, ◌-◌, ◌≤◌, ◌<◌}
-use native.Mathlib.Numerals.{add-one}
 use native.Mathlib.Omega.{arith}
 use mathlib.Core.Bool.{Bool, true, false, not, ◌&&◌, ◌||◌}
-use mathlib.Core.List.{[], ◌∷◌, ◌++◌, append_assoc}
-use lib.ListN.{length, get_or, take, drop, set, length-drop, length-set, length-map, drop_of_length-le, take-append-drop}
-use lib.Seq.{drop-cons, drop-drop, get_or-drop, take-suc-set, drop-set-lt, append_snoc}
+use mathlib.Core.List.{[], ◌∷◌, ◌++◌, append-nil}
+use lib.ListN.{length, length-append, get_or, take, drop, set, length-map}
+use lib.Seq.{append_snoc}
 use lib.Dec.{eqb, ltb}
 use borrow.Author.Tests.{eq-eqb, ne_eqb, lt-ltb, le-ltb}
 use borrow.Author.Tests.{not-true as not_taken}
-use Rattle.text.specs.Bytes.{Text, pick, byte, same, every, some}
+use Rattle.text.specs.Bytes.{Text, pick, byte, empty, same, every, some}
 use Rattle.text.specs.Answer.{Answer, refused, given, test, first, buffer_after, reported, written_of}
 use Rattle.text.specs.Marks.{usual}
 use Rattle.escape.specs.Escape.{five, is_escape, stands_for, stops, bad_escape, resolved, resolve}
-use Rattle.escape.specs.Step.{is_other, is_letter, meant}
+use Rattle.escape.specs.Step.{is_other, is_letter, meant, Reads}
 use Rattle.escape.specs.Promise.{Resolves}
 use Rattle.escape.specs.Length.{Measures}
-use Rattle.escape.specs.declared.Length.{Length}
-use Rattle.escape.specs.declared.Length.TheVariants as measured
 use Rattle.text.specs.Puts.{Puts}
 use Rattle.text.specs.declared.marks.Marks.{Marks}
+use Rattle.text.specs.declared.refusal.Refusal.{Refusal}
 use Rattle.text.specs.declared.refusal.Refusal.TheVariants.{NoRoom, BadEscape}
-use Rattle.text.specs.declared.Written.{Written}
-use Rattle.text.specs.declared.Written.TheVariants.{Refused, Bytes}
 use Rattle.text.proofs.Tests.{not-true, both, and-false, picks}
-use Rattle.text.proofs.Lists.{or-false, and-true}
-use Rattle.text.proofs.Puts.{puts-front-room, puts-front-ends, puts-front}
+use Rattle.text.proofs.Lists.{or-false, and-true, part-rest}
+use Rattle.text.proofs.Puts.{puts-length, puts-more, puts-front-room, puts-front-ends, puts-front}
 
 or-and : (a b x : Bool) → (a && x) || (b && x) ≡ (a || b) && x
 or-and true b true = refl
@@ -135,165 +132,129 @@ module _ (q : Marks) where
       let h = both (is_other q.escape b) (every (is_other q.escape) t) e in
       byte-resolved b t (not_taken (eqb b q.escape) h.0) ∙ ap (◌∷◌ b) (free_resolved t h.1)
 
--- a person reads byte b at i, and goes on at n
-pub record Goes (q : Marks) (t : Text) (i n b : ℕ) : Type 0 where
-  pub within : n ≤ length t
-  pub bad : bad_escape q (drop i t) ≡ bad_escape q (drop n t)
-  pub reads : resolved q (drop i t) ≡ b ∷ resolved q (drop n t)
+-- what a person reads first: a byte that is no \ stands for itself; an escape is passed over whole; another \ is bad
+module _ (q : Marks) where
+  pub reads_byte : (b : ℕ) (t : Text) → (b ≡ q.escape → ⊥) → Reads q (b ∷ t) b t
+  reads_byte b t e =
+      let f = ne_eqb b q.escape e in
+      record { shorter = omega arith; bad = byte-bad q b t f; reads = byte-resolved q b t f }
 
--- an escape at the front of a text is passed over whole
-goes_front : (q : Marks) (t : Text) → is_escape q t ≡ true → Goes q t 0 3 (meant q (get_or t 1 0))
-goes_front q [] e = not-true (sym (escape-few q [] (omega arith)) ∙ e)
-goes_front q (b ∷ []) e = not-true (sym (escape-few q (b ∷ []) (omega arith)) ∙ e)
-goes_front q (b ∷ c ∷ []) e = not-true (sym (escape-few q (b ∷ c ∷ []) (omega arith)) ∙ e)
-goes_front q (b ∷ c ∷ d ∷ t) e =
-    record {
-      within = omega arith;
-      bad = bad-step q b (c ∷ d ∷ t) (eqb b q.escape) true refl e ∙ rw (and-false (eqb b q.escape));
-      reads = resolved_step q b (c ∷ d ∷ t) true (meant q c) e (escape-stands q b c d t e);
-    }
+  -- the same, by the bytes that are looked at
+  pub first_byte : (t : Text) → 1 ≤ length t → (get_or t 0 0 ≡ q.escape → ⊥) → Reads q t (get_or t 0 0) (take (length t - 1) (drop 1 t))
+  first_byte [] h e = absurd (omega arith)
+  first_byte (b ∷ t) h e = rw part-rest (reads_byte b t e)
 
-module _ (q : Marks) (t : Text) (i : ℕ) where
-  pub bad-end : length t ≤ i → bad_escape q (drop i t) ≡ false
-  bad-end h = rw (drop_of_length-le t h) (bad-none q)
-
-  pub reads_end : length t ≤ i → resolved q (drop i t) ≡ []
-  reads_end h = rw (drop_of_length-le t h) (resolved-none q)
-
-  pub goes_byte : i < length t → (get_or t i 0 ≡ q.escape → ⊥) → Goes q t i (i + 1) (get_or t i 0)
-  goes_byte h e =
-      let f = ne_eqb (get_or t i 0) q.escape e in
+  reads_escape : (b c d e : ℕ) (t : Text) (l : Bool) → is_escape q (b ∷ c ∷ d ∷ t) ≡ l → l ≡ true → meant q c ≡ e → Reads q (b ∷ c ∷ d ∷ t) e t
+  reads_escape b c d e t l f g h =
+      let k = f ∙ g in
       record {
-        within = omega arith;
-        bad = rw (add-one, drop-cons t i 0) (byte-bad q (get_or t i 0) (drop (suc i) t) f);
-        reads = rw (add-one, drop-cons t i 0) (byte-resolved q (get_or t i 0) (drop (suc i) t) f);
+        shorter = omega arith;
+        bad = bad-step q b (c ∷ d ∷ t) (eqb b q.escape) true refl k ∙ rw (and-false (eqb b q.escape));
+        reads = resolved_step q b (c ∷ d ∷ t) true e k (escape-stands q b c d t k ∙ h);
       }
 
-  pub goes_escape : is_escape q (drop i t) ≡ true → Goes q t i (i + 3) (meant q (get_or t (i + 1) 0))
-  goes_escape e =
-      let g = goes_front q (drop i t) e in
-      record {
-        within = omega (arith, simp length-drop at g.within);
-        bad = g.bad ∙ rw (drop-drop 3 i t);
-        reads = g.reads ∙ rw (drop-drop 3 i t, get_or-drop i t 1 0);
-      }
+  letter-some : (l : Bool) (m b : ℕ) → Some b ≡ pick l (Some m) None → (l ≡ true) × (m ≡ b)
+  letter-some true m b e = (refl, cc)
+  letter-some false m b e = cc
 
-  -- another \ is bad
-  pub escape-bad : i < length t → get_or t i 0 ≡ q.escape → is_escape q (drop i t) ≡ false → bad_escape q (drop i t) ≡ true
-  escape-bad h e n =
-      rw (drop-cons t i 0 h)
-      (bad-step q (get_or t i 0) (drop (suc i) t) true false (eq-eqb (get_or t i 0) q.escape e) (rw (drop-cons t i 0 h) at n))
+  letter-none : (l : Bool) (m : ℕ) → None ≡ pick l (Some m) None → l ≡ false
+  letter-none true m e = cc
+  letter-none false m e = refl
 
-  good-step : i < length t → get_or t i 0 ≡ q.escape → bad_escape q (drop i t) ≡ false → (y : Bool) → is_escape q (drop i t) ≡ y → is_escape q (drop i t) ≡ true
-  good-step h e g true k = k
-  good-step h e g false k = not-true (sym g ∙ escape-bad h e k)
+  -- no escape begins there
+  pub first_bad : (t : Text) → 1 ≤ length t → get_or t 0 0 ≡ q.escape → is_escape q t ≡ false → bad_escape q t ≡ not (empty t)
+  first_bad [] h f e = absurd (omega arith)
+  first_bad (b ∷ t) h f e = bad-step q b t true false (eq-eqb b q.escape f) e
 
-  -- in a text with no bad escape each \ that is read begins an escape
-  pub goes_good : i < length t → get_or t i 0 ≡ q.escape → bad_escape q (drop i t) ≡ false → Goes q t i (i + 3) (meant q (get_or t (i + 1) 0))
-  goes_good h e g = goes_escape (good-step h e g (is_escape q (drop i t)) refl)
+  pub first_none : (t : Text) → length t < 1 → bad_escape q t ≡ not (empty t)
+  first_none [] h = bad-none q
+  first_none (b ∷ t) h = absurd (omega arith)
 
-  -- whether one begins at i, told by the bytes there
-  pub escape-short : length t - i < 3 → is_escape q (drop i t) ≡ false
-  escape-short h = escape-few q (drop i t) (simp length-drop (omega arith))
+  pub first_few : (t : Text) → 1 ≤ length t → length t < 3 → get_or t 0 0 ≡ q.escape → bad_escape q t ≡ not (empty t)
+  first_few t h k f = first_bad t h f (escape-few q t k)
 
-  pub escape-at : i + 3 ≤ length t → get_or t i 0 ≡ q.escape
-      → is_escape q (drop i t) ≡ is_letter (get_or t (i + 1) 0) && eqb (get_or t (i + 2) 0) q.escape
-  escape-at h e =
-      let a : i < length t = omega arith in
-      let b : suc i < length t = omega arith in
-      let c : suc (suc i) < length t = omega arith in
-      let one : i + 1 ≡ suc i = omega arith in
-      let two : i + 2 ≡ suc (suc i) = omega arith in
-      rw (one, two, drop-cons t i 0 a, drop-cons t (suc i) 0 b, drop-cons t (suc (suc i)) 0 c)
-      (escape-front q (get_or t i 0) (get_or t (suc i) 0) (get_or t (suc (suc i)) 0) (drop (suc (suc (suc i))) t) ∙ rw (eq-eqb (get_or t i 0) q.escape e))
+  -- three bytes
+  pub first_escape : (t : Text) (b : ℕ) → 3 ≤ length t → get_or t 0 0 ≡ q.escape → get_or t 2 0 ≡ q.escape
+      → Some b ≡ pick (is_letter (get_or t 1 0)) (Some (meant q (get_or t 1 0))) None → Reads q t b (take (length t - 3) (drop 3 t))
+  first_escape [] e h f g m = absurd (omega arith)
+  first_escape (b ∷ []) e h f g m = absurd (omega arith)
+  first_escape (b ∷ c ∷ []) e h f g m = absurd (omega arith)
+  first_escape (b ∷ c ∷ d ∷ t) e h f g m =
+      let l = letter-some (is_letter c) (meant q c) e m in
+      rw part-rest (reads_escape b c d e t _ (escape-front q b c d t) (rw (eq-eqb b q.escape f, eq-eqb d q.escape g, l.0) refl) l.1)
 
--- what is known of a length is known of the case that a match has found
-pub measures_as : (q : Marks) (t : Text) (r s : Length) → r ≡ s → Measures q t r → Measures q t s
-measures_as q t r s e m = subst (Measures q t) e m
+  pub first_other : (t : Text) → 3 ≤ length t → get_or t 0 0 ≡ q.escape
+      → None ≡ pick (is_letter (get_or t 1 0)) (Some (meant q (get_or t 1 0))) None → bad_escape q t ≡ not (empty t)
+  first_other [] h f m = absurd (omega arith)
+  first_other (b ∷ []) h f m = absurd (omega arith)
+  first_other (b ∷ c ∷ []) h f m = absurd (omega arith)
+  first_other (b ∷ c ∷ d ∷ t) h f m =
+      first_bad (b ∷ c ∷ d ∷ t) (omega arith) f
+      (escape-front q b c d t ∙ rw (letter-none (is_letter c) (meant q c) m) (and-false (eqb b q.escape)))
 
--- n bytes of the resolved text are counted when the reader stands at i, and no bad escape was met
-pub record Counted (q : Marks) (t : Text) (n i : ℕ) : Type 0 where
-  pub within : i ≤ length t
-  pub fewer : n ≤ i
-  pub bad : bad_escape q (drop i t) ≡ bad_escape q t
-  pub told : n + length (resolved q (drop i t)) ≡ length (resolved q t)
+  pub first_open : (t : Text) → 3 ≤ length t → get_or t 0 0 ≡ q.escape → (get_or t 2 0 ≡ q.escape → ⊥) → bad_escape q t ≡ not (empty t)
+  first_open [] h f g = absurd (omega arith)
+  first_open (b ∷ []) h f g = absurd (omega arith)
+  first_open (b ∷ c ∷ []) h f g = absurd (omega arith)
+  first_open (b ∷ c ∷ d ∷ t) h f g =
+      first_bad (b ∷ c ∷ d ∷ t) (omega arith) f
+      (escape-front q b c d t ∙ rw (ne_eqb d q.escape g, and-false (is_letter c)) (and-false (eqb b q.escape)))
+
+-- n bytes of the resolved text are counted, no bad escape was met, and the rest is still to be read
+pub record Counted (q : Marks) (t : Text) (n : ℕ) (rest : Text) : Type 0 where
+  pub fewer : n + length rest ≤ length t
+  pub bad : bad_escape q rest ≡ bad_escape q t
+  pub told : n + length (resolved q rest) ≡ length (resolved q t)
 
 module _ (q : Marks) (t : Text) where
-  pub counted_none : Counted q t 0 0
-  counted_none = record { within = omega arith; fewer = omega arith; bad = refl; told = omega arith }
+  -- where nothing is left, all are counted
+  pub counted-all : (n : ℕ) (rest : Text) → length rest ≡ 0 → Counted q t n rest → Measures q t (Some n)
+  counted-all n [] e c = (sym c.bad ∙ bad-none q, omega (arith, c.told, ap length (resolved-none q)))
+  counted-all n (b ∷ rest) e c = absurd (omega arith)
 
-  pub counted-more : (n i j b : ℕ) → i < j → Goes q t i j b → Counted q t n i → Counted q t (n + 1) j
-  counted-more n i j b h g c =
+  pub counted-more : (n b : ℕ) (rest after : Text) → Reads q rest b after → Counted q t n rest → Counted q t (n + 1) after
+  counted-more n b rest after r c =
       record {
-        within = g.within;
         fewer = omega arith;
-        bad = sym g.bad ∙ c.bad;
-        told = omega (arith, ap length g.reads);
+        bad = sym r.bad ∙ c.bad;
+        told = omega (arith, ap length r.reads);
       }
 
-  pub counted-bad : (n i : ℕ) → i < length t → get_or t i 0 ≡ q.escape → is_escape q (drop i t) ≡ false → Counted q t n i → Measures q t measured.BadEscape
-  counted-bad n i h e b c = sym c.bad ∙ escape-bad q t i h e b
-
-  pub counted-all : (n i : ℕ) → length t ≤ i → Counted q t n i → Measures q t (measured.Bytes n)
-  counted-all n i h c = (sym c.bad ∙ bad-end q t i h, omega (arith, c.told, ap length (reads_end q t i h)))
-
   -- with no \ in it, it is as long as it is written
-  pub counted_free : every (is_other q.escape) t ≡ true → Measures q t (measured.Bytes (length t))
+  pub counted_free : every (is_other q.escape) t ≡ true → Measures q t (Some (length t))
   counted_free e = (free_good q t e, ap length (sym (free_resolved q t e)))
 
--- a buffer with the rest still to be written at n
-abbrev filled : ℕ → Text → Text → Text
-filled n rest buffer = take n buffer ++ (rest ++ drop (n + length rest) buffer)
+resolved-empty : (q : Marks) (rest : Text) → not (empty rest) ≡ false → resolved q rest ≡ []
+resolved-empty q [] e = resolved-none q
+resolved-empty q (b ∷ rest) e = not-true (sym e)
 
-filled_none : (n : ℕ) (buffer : Text) → filled n [] buffer ≡ buffer
-filled_none n buffer = let z : n + 0 ≡ n = omega arith in rw z (take-append-drop n buffer)
-
-filled-step : (n b : ℕ) (rest buffer : Text) → n < length buffer → filled (n + 1) rest (set buffer n b) ≡ filled n (b ∷ rest) buffer
-filled-step n b rest buffer h =
-    let l : n < n + suc (length rest) = omega arith in
-    let e : suc n + length rest ≡ n + suc (length rest) = omega arith in
-    rw (add-one n, e, take-suc-set buffer n b h, drop-set-lt (n + suc (length rest)) buffer n b l)
-    (append_snoc (take n buffer) b (rest ++ drop (n + suc (length rest)) buffer))
-
--- so much of the resolved text as the reader has passed at i stands in the buffer, which held `before`, from `at` up to `to`
-pub record Filled (q : Marks) (t before : Text) (at : ℕ) (buffer : Text) (to i : ℕ) : Type 0 where
-  pub within : i ≤ length t
-  pub size : length buffer ≡ length before
+-- the text put so far, and what the rest resolves to, are the resolved text
+pub record Filled (q : Marks) (t before : Text) (at : ℕ) (buffer : Text) (to : ℕ) (rest : Text) : Type 0 where
+  pub done : Text
+  pub puts : Puts before at done buffer to
   pub room : at + length (resolved q t) ≤ length before
-  pub good : bad_escape q (drop i t) ≡ false
-  pub left : to + length (resolved q (drop i t)) ≡ at + length (resolved q t)
-  pub told : filled to (resolved q (drop i t)) buffer ≡ filled at (resolved q t) before
+  pub good : bad_escape q rest ≡ false
+  pub told : done ++ resolved q rest ≡ resolved q t
 
-module _ (q : Marks) (t before : Text) (at : ℕ) where
-  pub filled-first : bad_escape q t ≡ false → at + length (resolved q t) ≤ length before → Filled q t before at before at 0
-  filled-first g h = record { within = omega arith; size = refl; room = h; good = g; left = refl; told = refl }
+module _ (q : Marks) (t before : Text) (at : ℕ) (buffer : Text) (to : ℕ) (rest : Text) (f : Filled q t before at buffer to rest) where
+  pub filled-room : (b : ℕ) (after : Text) → Reads q rest b after → to < length buffer
+  filled-room b after r =
+      omega (arith, ap length r.reads, f.room, f.puts.ends, puts-length f.puts, simp length-append at (ap length f.told))
 
-  module _ (buffer : Text) (to i : ℕ) (f : Filled q t before at buffer to i) where
-    pub filled-room : (j b : ℕ) → Goes q t i j b → to < length buffer
-    filled-room j b g = omega (arith, ap length g.reads, f.room, f.left, f.size)
+  pub filled_more : (b : ℕ) (after : Text) → Reads q rest b after → Filled q t before at (set buffer to b) (to + 1) after
+  filled_more b after r =
+      record {
+        done = f.done ++ b ∷ [];
+        puts = puts-more to b refl (omega (arith, filled-room b after r, puts-length f.puts)) f.puts;
+        room = f.room;
+        good = sym r.bad ∙ f.good;
+        told = append_snoc f.done b (resolved q after) ∙ (rw r.reads at f.told);
+      }
 
-    pub filled_more : (j b : ℕ) → Goes q t i j b → Filled q t before at (set buffer to b) (to + 1) j
-    filled_more j b g =
-        let k = filled-room j b g in
-        record {
-          within = g.within;
-          size = simp length-set f.size;
-          room = f.room;
-          good = sym g.bad ∙ f.good;
-          left = omega (arith, ap length g.reads, f.left);
-          told = filled-step to b (resolved q (drop j t)) buffer k ∙ (rw g.reads at f.told);
-        }
-
-    pub filled-all : length t ≤ i → Puts before at (resolved q t) buffer to
-    filled-all h =
-        record {
-          room = f.room;
-          holds =
-              sym (filled_none to buffer)
-              ∙ ((rw (reads_end q t i h) at f.told)
-              ∙ sym (append_assoc (take at before) (resolved q t) (drop (at + length (resolved q t)) before)));
-          ends = omega (arith, f.left, ap length (reads_end q t i h));
-        }
+  pub filled-all : bad_escape q rest ≡ not (empty rest) → Puts before at (resolved q t) buffer to
+  filled-all e =
+      let told : f.done ≡ resolved q t = sym (append-nil f.done) ∙ (rw (resolved-empty q rest (sym e ∙ f.good)) at f.told) in
+      subst (λ (u : Text). Puts before at u buffer to) told f.puts
 
 -- each stop is at a byte of its own: a text resolved is no longer; and from a stop to the next are three bytes at most
 module _ (q : Marks) where
@@ -340,22 +301,34 @@ module _ (q : Marks) (t : Text) (room : ℕ) where
       ∙ ap (λ (x : Bool). pick x (refused NoRoom) (given (resolved q t))) (le-ltb room (length (resolved q t)) h)
 
 -- a call's answer and buffer are those that the definition gives
-resolves : (t before : Text) (r : Written) (after : Text) (a : Answer Text) → resolve usual t (length before) ≡ a → written_of r ≡ reported a
+resolves : (t before : Text) (r : Result ℕ Refusal) (after : Text) (a : Answer Text) → resolve usual t (length before) ≡ a → written_of r ≡ reported a
     → after ≡ buffer_after a before
     → Resolves t before r after
 resolves t before r after a e p s =
     record { answer = p ∙ ap reported (sym e); buffer = s ∙ ap (λ (x : Answer Text). buffer_after x before) (sym e) }
 
-module _ (q : Marks) (t before : Text) (u : q ≡ usual) where
-  pub resolves-bad : bad_escape q t ≡ true → Resolves t before (Refused BadEscape) before
-  resolves-bad b =
-      resolves t before (Refused BadEscape) before (refused BadEscape) (resolve-bad usual t (length before) (rw u at b)) refl refl
+-- the length that is measured, as `ok_or` hands it on
+measured : (q : Marks) (t : Text) (o : Option ℕ) (n : ℕ) → Measures q t o → Ok n ≡ ok_or o BadEscape → (bad_escape q t ≡ false) × (n ≡ length (resolved q t))
+measured q t None n m e = cc
+measured q t (Some k) n m e = let h : n ≡ k = cc in (m.0, h ∙ m.1)
 
-  pub resolves_full : (n : ℕ) → bad_escape q t ≡ false → n ≡ length (resolved q t) → length before < n → Resolves t before (Refused NoRoom) before
-  resolves_full n b e h =
-      resolves t before (Refused NoRoom) before (refused NoRoom) (resolve_full usual t (length before) (rw u at b) (rw (e, u) at h)) refl refl
+not_measured : (q : Marks) (t : Text) (o : Option ℕ) (x : Refusal) → Measures q t o → Err x ≡ ok_or o BadEscape → (bad_escape q t ≡ true) × (x ≡ BadEscape)
+not_measured q t None x m e = (m, cc)
+not_measured q t (Some k) x m e = cc
 
-  pub resolves-given : (n : ℕ) (after : Text) → bad_escape q t ≡ false → Puts before 0 (resolved q t) after n → Resolves t before (Bytes n) after
-  resolves-given n after b p =
-      resolves t before (Bytes n) after (given (resolved usual t)) (resolve-given usual t (length before) (rw u at b) (rw u at (puts-front-room p)))
+module _ (q : Marks) (t before : Text) (u : q ≡ usual) (o : Option ℕ) (m : Measures q t o) where
+  pub resolves-bad : (x : Refusal) → Err x ≡ ok_or o BadEscape → Resolves t before (Err x) before
+  resolves-bad x e =
+      let h = not_measured q t o x m e in
+      rw h.1
+      (resolves t before (Err BadEscape) before (refused BadEscape) (resolve-bad usual t (length before) (rw u at h.0)) refl refl)
+
+  pub resolves_full : (n : ℕ) → Ok n ≡ ok_or o BadEscape → length before < n → Resolves t before (Err NoRoom) before
+  resolves_full n e h =
+      let l = measured q t o n m e in
+      resolves t before (Err NoRoom) before (refused NoRoom) (resolve_full usual t (length before) (rw u at l.0) (rw (l.1, u) at h)) refl refl
+
+  pub resolves-given : (n : ℕ) (after : Text) (r : ℕ) → Ok n ≡ ok_or o BadEscape → Puts before 0 (resolved q t) after r → Resolves t before (Ok r) after
+  resolves-given n after r e p =
+      resolves t before (Ok r) after (given (resolved usual t)) (resolve-given usual t (length before) (rw u at (measured q t o n m e).0) (rw u at (puts-front-room p)))
       (ap given (rw u at (puts-front-ends p))) (rw u at (puts-front p))

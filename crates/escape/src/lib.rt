@@ -2,92 +2,59 @@
 #![tactic(auto)]
 
 ghost use Rattle.std.specs.Prelude.{◌≡◌, false, ◌+◌, ◌≤◌, ◌<◌, length, get_or, drop};
-ghost use Rattle.text.specs.Bytes.{every};
-ghost use Rattle.escape.specs.Escape.{is_escape, bad_escape, resolved};
+ghost use Rattle.text.specs.Bytes.{pick};
+ghost use Rattle.escape.specs.Escape.{bad_escape, resolved};
 ghost use Rattle.escape.specs.Length.{Measures};
 ghost use Rattle.escape.specs.Promise.{Resolves};
 ghost use Rattle.text.specs.Puts.{Puts};
-ghost use Rattle.escape.specs.Step.{is_other, is_letter};
+ghost use Rattle.escape.specs.Step.{is_letter, ReadsFirst};
 
-use text::{Marks, Refusal, Written, usual_marks};
+use text::{Marks, Refusal, every, usual_marks};
 
-// Whether this is the letter of one of the five escapes.
-fn is_letter(b: u8) -> bool
-    ensures { result ≡ is_letter b }
+// The separator that a letter means; none where it is the letter of no escape.
+fn meant(q: Marks, letter: u8) -> Option<u8>
+    ensures { result ≡ pick (is_letter letter) (Some (Rattle.escape.specs.Step.meant q letter)) None }
 {
-    (b == b'F') | ((b == b'S') | ((b == b'T') | ((b == b'R') | (b == b'E'))))
-}
-
-// The separator that a letter means.
-fn meant(q: Marks, b: u8) -> u8
-    ensures { result ≡ Rattle.escape.specs.Step.meant q b }
-{
-    match b {
-        b'F' => q.field,
-        b'S' => q.component,
-        b'T' => q.subcomponent,
-        b'R' => q.repetition,
-        _ => q.escape,
+    match letter {
+        b'F' => Some(q.field),
+        b'S' => Some(q.component),
+        b'T' => Some(q.subcomponent),
+        b'R' => Some(q.repetition),
+        b'E' => Some(q.escape),
+        _ => None,
     }
 }
 
-// Whether the \ at i begins one of the five escapes.
-fn is_escape(q: Marks, t: &[u8], i: usize) -> bool
-    requires { (i < length t.now) × (get_or t.now i 0 ≡ q.escape) }
-    ensures { result ≡ is_escape q (drop i t.now) }
+// The byte that a person reads first, and what follows it in the text; none where nothing or a bad escape is there.
+fn first_read<'a>(q: Marks, t: &'a [u8]) -> Option<(u8, &'a [u8])>
+    ensures { ReadsFirst q t.now result }
 {
-    if t.len() - i < 3 {
-        return false;
+    match t {
+        [b, rest @ ..] if *b != q.escape => Some((*b, rest)),
+        [_, letter, end, rest @ ..] if *end == q.escape => Some((meant(q, *letter)?, rest)),
+        _ => None,
     }
-    is_letter(t[i + 1]) & (t[i + 2] == q.escape)
 }
 
-// Whether a text has no such byte. No early way out, so that many bytes are tested at once.
-fn is_free(t: &[u8], mark: u8) -> bool
-    ensures { result ≡ every (is_other mark) t.now }
-{
-    let mut ok = true;
-    let mut i = 0;
-    while i < t.len() {
-        ok = ok & (t[i] != mark);
-        i += 1;
-    }
-    ok
-}
-
-// The length of the text that a person reads; a text with a bad escape has none.
-#[derive(Clone, Copy)]
-pub enum Length {
-    BadEscape,
-    Bytes(usize),
-}
-
-// The length of a text, escape by escape: the three bytes of each stand for one.
-fn counted(q: Marks, t: &[u8]) -> Length
+// The length of the text that a person reads, byte by byte; a text with a bad escape has none.
+fn counted(q: Marks, t: &[u8]) -> Option<usize>
     ensures { Measures q t.now result }
 {
     let mut n = 0;
-    let mut i = 0;
-    while i < t.len() {
+    let mut rest = t;
+    while let Some((_, after)) = first_read(q, rest) {
         n += 1;
-        if t[i] == q.escape {
-            if !is_escape(q, t, i) {
-                return Length::BadEscape;
-            }
-            i += 3;
-        } else {
-            i += 1;
-        }
+        rest = after;
     }
-    Length::Bytes(n)
+    if rest.is_empty() { Some(n) } else { None }
 }
 
 // The same: most texts have no \ at all, and are as long as they are written.
-pub fn resolved_len(q: Marks, t: &[u8]) -> Length
+pub fn resolved_len(q: Marks, t: &[u8]) -> Option<usize>
     ensures { Measures q t.now result }
 {
-    if is_free(t, q.escape) {
-        return Length::Bytes(t.len());
+    if every(t, |b| b != q.escape) {
+        return Some(t.len());
     }
     counted(q, t)
 }
@@ -98,34 +65,23 @@ pub fn put_resolved(out: &mut [u8], at: usize, q: Marks, t: &[u8]) -> usize
     ensures { Puts out.old at (resolved q t.now) out.new result }
 {
     let mut to = at;
-    let mut i = 0;
-    while i < t.len() {
-        let b = t[i];
-        if b == q.escape {
-            out[to] = meant(q, t[i + 1]);
-            to += 1;
-            i += 3;
-        } else {
-            out[to] = b;
-            to += 1;
-            i += 1;
-        }
+    let mut rest = t;
+    while let Some((b, after)) = first_read(q, rest) {
+        out[to] = b;
+        to += 1;
+        rest = after;
     }
     to
 }
 
 // Resolves a text with the usual separators into the buffer. Both tests are done before a byte is written.
-pub fn resolve(text: &[u8], buffer: &mut [u8]) -> Written
+pub fn resolve(text: &[u8], buffer: &mut [u8]) -> Result<usize, Refusal>
     ensures { Resolves text.now buffer.old result buffer.new }
 {
     let q = usual_marks();
-    match resolved_len(q, text) {
-        Length::BadEscape => Written::Refused(Refusal::BadEscape),
-        Length::Bytes(n) => {
-            if buffer.len() < n {
-                return Written::Refused(Refusal::NoRoom);
-            }
-            Written::Bytes(put_resolved(buffer, 0, q, text))
-        }
+    let n = resolved_len(q, text).ok_or(Refusal::BadEscape)?;
+    if buffer.len() < n {
+        return Err(Refusal::NoRoom);
     }
+    Ok(put_resolved(buffer, 0, q, text))
 }

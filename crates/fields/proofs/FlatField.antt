@@ -11,7 +11,6 @@ use borrow.Author.Tests.{not-true}
 use Rattle.profile.specs.Numbers.{component_column, row_size, subcomponent_column}
 use Rattle.text.specs.Bytes.{Text, every, within}
 use Rattle.escape.specs.Length.{Measures}
-use Rattle.escape.specs.declared.Length.TheVariants.{Bytes}
 use Rattle.escape.specs.Step.{is_other}
 use Rattle.escape.proofs.Escapes.{counted_free}
 use Rattle.text.specs.declared.marks.Marks.{Marks}
@@ -28,15 +27,16 @@ use Rattle.parts.proofs.Split.{before-first}
 use Rattle.parts.proofs.Join.{Free, split_one}
 use Rattle.profile.specs.Table.{Leaf}
 use Rattle.profile.specs.Numbers as row
-use Rattle.leaves.specs.declared.repetition.ReadRepetition.{ReadRepetition}
-use Rattle.checks.specs.Place.{Place, place}
+use Rattle.checks.specs.Place.{Place}
 use Rattle.checks.specs.Fault.{leaf_checks, first_broken}
+use Rattle.std.specs.Prelude.{None, Some, Result, Ok, Err}
+use Rattle.std.specs.Result.{is_ok, is_err}
+use Rattle.checks.specs.declared.reasons.Reason.{Reason}
 use Rattle.leaves.specs.Judged.{told, ReadsRepetition}
 use Rattle.fields.specs.Judged.{ReadsField}
 use Rattle.fields.specs.Flat.{is_plain, is_flat, passed, passed_once}
-use Rattle.leaves.proofs.LeafByLeaf.{Left, Reading, reading-judged}
+use Rattle.leaves.proofs.LeafByLeaf.{Reading, reading-judged}
 use Rattle.checks.proofs.Filled.{none_filled}
-use Rattle.leaves.proofs.Breaks.{told_none}
 use Rattle.fields.proofs.Repeats.{repeats-first, repeats-read, repeats-last}
 
 -- parts of a flat text are flat
@@ -65,7 +65,7 @@ module _ (q : Marks) where
       }
 
   -- it reads as it is written
-  pub flat-plain : (x : Text) → is_flat q x ≡ true → Measures q x (Bytes (length x))
+  pub flat-plain : (x : Text) → is_flat q x ≡ true → Measures q x (Some (length x))
   flat-plain x h = counted_free q x (flat x h).escape
 
   -- it is its own first subcomponent
@@ -75,40 +75,32 @@ module _ (q : Marks) where
 whole-within : (x : Text) → within 0 (0 + length x) x ≡ x
 whole-within x = take_all (0 + length x - 0) x (omega arith)
 
--- where nothing is broken, the place told does not matter
-forget : {q : Marks} {s : Text} {all ls : List Leaf} {found : ReadRepetition} → Left q s all ls found → found.reason ≡ 0
-    → Left q s all ls (record { filled = found.filled; reason = 0; component = 0; subcomponent = 0 })
-forget {found = found} h e =
-    record {
-      fills = h.fills;
-      breaks = λ n o f k. h.breaks n o f k ∙ rw (told_none (place n o f k found.component found.subcomponent) found.reason e);
-    }
-
 -- WHERE THE READING STANDS, a leaf further: nothing is broken
 module _ {s : Text} {q : Marks} {table : List ℕ} {first end : ℕ} {filled : Bool} {c : Cursor} {at : ℕ}
-    (w : Reading s q table first end (record { filled = filled; reason = 0; component = 0; subcomponent = 0 }) c at) (more : row_size ≤ end - at)
+    (w : Reading s q table first end (record { filled = filled; broken = None }) c at) (more : row_size ≤ end - at)
     (clean : is_flat q s ≡ true) (sub : get_or table (at + subcomponent_column) 0 ≡ 1)
     {d : Cursor} (moved : IsPiece q.component s d × (d.number ≡ get_or table (at + component_column) 0)) where
   abbrev text : Text
   text = within d.start d.end s
 
-  pub flat_measured : Measures q text (Bytes (length text))
+  pub flat_measured : Measures q text (Some (length text))
   flat_measured = flat-plain q text (flat-within q d.start d.end s clean)
 
   found_at : span 0 text ≡ span (start q.subcomponent (get_or table (at + subcomponent_column) 0) text) (piece (get_or table (at + subcomponent_column) 0) (split q.subcomponent text))
   found_at = rw sub (flat-leaf q text (flat-within q d.start d.end s clean))
 
-  pub flat_on : {r : ℕ} → ((p : Place) → told p r ≡ first_broken (leaf_checks q p (row.leaf_of (drop at table)) text)) → r ≡ 0
-      → Reading s q table first end (record { filled = filled || ltb 0 (length text); reason = 0; component = 0; subcomponent = 0 }) d (at + row_size)
-  flat_on {r} g e =
-      let h = reading-judged w more moved {p = span 0 text} found_at refl {r = r} (λ p. rw (whole-within text) (g p)) in
-      record {
-        order = h.order;
-        inside = h.inside;
-        piece = h.piece;
-        ascends = h.ascends;
-        left = rw (zero-add (length text)) at (forget h.left e);
-      }
+  pub flat_on : (r : Result Unit Reason) → ((p : Place) → told p r ≡ first_broken (leaf_checks q p (row.leaf_of (drop at table)) text)) → r ≡ Ok tt
+      → Reading s q table first end (record { filled = filled || ltb 0 (length text); broken = None }) d (at + row_size)
+  flat_on r g e = rw (zero-add (length text), e) at (reading-judged w more moved {p = span 0 text} found_at refl r (λ p. rw (whole-within text) (g p)))
+
+-- a check that is said to be broken nowhere
+pub is_good : (r : Result Unit Reason) → is_ok r ≡ true → r ≡ Ok tt
+is_good (Ok _) e = refl
+is_good (Err r) e = cc e
+
+pub not_broken : (r : Result Unit Reason) → is_err r ≡ false → r ≡ Ok tt
+not_broken (Ok _) e = refl
+not_broken (Err r) e = cc e
 
 -- THE FIELD is its only repetition
 pub flat-reads : (q : Marks) (ls : List Leaf) (x : Text) → is_flat q x ≡ true → ReadsRepetition q ls x passed_once → (most : ℕ) → 1 ≤ most → ReadsField q ls most x passed
@@ -116,5 +108,5 @@ flat-reads q ls [] h r most m = no (sym (r.filled ∙ none_filled q ls))
 flat-reads q ls (b ∷ x) h r most m =
     let y = b ∷ x in
     repeats-last q ls y 1 most passed m
-    (repeats-read q ls y 1 y [] (record { surplus = false; filled = false; reason = 0; repetition = 0; component = 0; subcomponent = 0 })
+    (repeats-read q ls y 1 y [] (record { surplus = false; filled = false; broken = None })
     (rw (split_one q.repetition y (flat q y h).repetition) at (repeats-first q ls y (λ z. omega (arith, z)))) refl passed_once r refl)

@@ -1,6 +1,6 @@
 -- Inner: no entry's promise is made of this.
 -- What only the quick tests speak of: fields that have components at most, and what is told of one that breaks nothing.
-use Rattle.std.specs.Prelude.{ℕ, Bool, true, false, not, ◌||◌, eqb}
+use Rattle.std.specs.Prelude.{ℕ, Bool, true, false, not, ◌||◌, eqb, None}
 use Rattle.text.specs.Bytes.{Text, every}
 use Rattle.text.specs.declared.marks.Marks.{Marks}
 use Rattle.leaves.specs.declared.repetition.ReadRepetition.{ReadRepetition}
@@ -14,7 +14,7 @@ abbrev pub is_flat : Marks → Text → Bool
 is_flat q x = every (is_plain q) x
 
 abbrev pub passed : ReadField
-passed = record { surplus = false; filled = true; reason = 0; repetition = 1; component = 0; subcomponent = 0 }
+passed = record { surplus = false; filled = true; broken = None }
 
 abbrev pub passed_once : ReadRepetition
-passed_once = record { filled = true; reason = 0; component = 0; subcomponent = 0 }
+passed_once = record { filled = true; broken = None }

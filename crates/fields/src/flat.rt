@@ -6,12 +6,10 @@ ghost use Rattle.leaves.specs.Judged.{ReadsRepetition};
 ghost use Rattle.fields.specs.Judged.{ReadsField};
 ghost use Rattle.fields.specs.Flat.{is_plain, is_flat, passed, passed_once};
 
-use checks::reasons;
-use codes::Rows;
 use cursor::{advance, first_piece};
 use leaves::{missing_leaves, plain_reason, takes_any};
 use profile::columns;
-use text::Marks;
+use text::{Marks, Span, every};
 
 // Whether a byte is none of the marks that make a field more than its components.
 fn is_plain(q: Marks, b: u8) -> bool
@@ -24,17 +22,11 @@ fn is_plain(q: Marks, b: u8) -> bool
 pub fn is_flat(q: Marks, x: &[u8]) -> bool
     ensures { result ≡ is_flat q x.now }
 {
-    let mut ok = true;
-    let mut i = 0;
-    while i < x.len() {
-        ok = ok & is_plain(q, x[i]);
-        i += 1;
-    }
-    ok
+    every(x, |b| is_plain(q, b))
 }
 
 // Whether the text is so short that every leaf takes it, and begins with bytes of its first one: then nothing in it needs to be looked at.
-fn is_sure(s: &[u8], q: Marks, table: &[u16], rows: Rows) -> bool
+fn is_sure(s: &[u8], q: Marks, table: &[u16], rows: Span) -> bool
     requires { Lists table.now rows (leaves_at table.now rows) × (is_flat q s.now ≡ true) }
     ensures { result ≡ true → ReadsRepetition q (leaves_at table.now rows) s.now passed_once }
 {
@@ -46,7 +38,7 @@ fn is_sure(s: &[u8], q: Marks, table: &[u16], rows: Rows) -> bool
 }
 
 // Whether the one leaf that the field lists is seen to break nothing: it is the first component. Most fields list no other.
-fn one_leaf_passes(s: &[u8], q: Marks, table: &[u16], rows: Rows) -> bool
+fn one_leaf_passes(s: &[u8], q: Marks, table: &[u16], rows: Span) -> bool
     requires lists { Lists table.now rows (leaves_at table.now rows) × (is_flat q s.now ≡ true) }
     requires one_row { rows.end - rows.start ≡ row_size }
     ensures { result ≡ true → ReadsRepetition q (leaves_at table.now rows) s.now passed_once }
@@ -62,11 +54,11 @@ fn one_leaf_passes(s: &[u8], q: Marks, table: &[u16], rows: Rows) -> bool
     if leaf.len() == 0 {
         return false;
     }
-    plain_reason(leaf, table, at, leaf.len()) == reasons::NOTHING_BROKEN
+    plain_reason(leaf, table, at, leaf.len()).is_ok()
 }
 
 // Whether the components are seen to be leaves that break nothing, some of them filled.
-fn leaves_pass(s: &[u8], q: Marks, table: &[u16], rows: Rows) -> bool
+fn leaves_pass(s: &[u8], q: Marks, table: &[u16], rows: Span) -> bool
     requires { Lists table.now rows (leaves_at table.now rows) × (is_flat q s.now ≡ true) }
     ensures { result ≡ true → ReadsRepetition q (leaves_at table.now rows) s.now passed_once }
 {
@@ -77,8 +69,8 @@ fn leaves_pass(s: &[u8], q: Marks, table: &[u16], rows: Rows) -> bool
     while columns::ROW <= end - at {
         let number = table[at + columns::COMPONENT] as u64;
         if (cursor.number < number) & (s.len() <= cursor.end) {
-            let r = missing_leaves(filled, table, Rows { start: at, end });
-            return r.filled & (r.reason == reasons::NOTHING_BROKEN);
+            let r = missing_leaves(filled, table, Span { start: at, end });
+            return r.filled & r.broken.is_none();
         }
         if table[at + columns::SUBCOMPONENT] != 1 {
             return false;
@@ -87,10 +79,8 @@ fn leaves_pass(s: &[u8], q: Marks, table: &[u16], rows: Rows) -> bool
         let from = cursor.start;
         let to = cursor.end;
         let leaf = &s[from..to];
-        if !takes_any(leaf.len(), table, at) {
-            if plain_reason(leaf, table, at, leaf.len()) != reasons::NOTHING_BROKEN {
-                return false;
-            }
+        if !takes_any(leaf.len(), table, at) && plain_reason(leaf, table, at, leaf.len()).is_err() {
+            return false;
         }
         filled = filled | (0 < leaf.len());
         at += columns::ROW;
@@ -99,7 +89,7 @@ fn leaves_pass(s: &[u8], q: Marks, table: &[u16], rows: Rows) -> bool
 }
 
 // Whether a field is seen to be filled and to break nothing.
-pub fn flat_passes(x: &[u8], q: Marks, table: &[u16], rows: Rows) -> bool
+pub fn flat_passes(x: &[u8], q: Marks, table: &[u16], rows: Span) -> bool
     requires { Lists table.now rows (leaves_at table.now rows) × (is_flat q x.now ≡ true) }
     ensures { result ≡ true → (most : ℕ) → 1 ≤ most → ReadsField q (leaves_at table.now rows) most x.now passed }
 {

@@ -4,5 +4,5 @@
 mod field;
 mod flat;
 
-pub use field::{ReadField, read_field};
+pub use field::{BrokenInField, ReadField, read_field};
 pub use flat::{flat_passes, is_flat};

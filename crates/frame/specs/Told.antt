@@ -1,9 +1,9 @@
 -- Inner: no entry's promise is made of this.
 -- What the answers of this room tell.
-use Rattle.text.specs.Answer.{Answer, refused, given}
-use Rattle.frame.specs.declared.checks.Framing as framing
+use Rattle.std.specs.Prelude.{Result}
+use Rattle.text.specs.Answer.{Answer, answer_of}
+use Rattle.text.specs.declared.refusal.Refusal.{Refusal}
 
 -- the frame checks: a refusal, or a good frame
-abbrev pub framing_of : framing.Framing → Answer Unit
-framing_of (framing.TheVariants.Refused r) = refused r
-framing_of framing.TheVariants.Framed = given tt
+abbrev pub framing_of : Result Unit Refusal → Answer Unit
+framing_of r = answer_of (λ u. tt) r

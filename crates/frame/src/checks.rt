@@ -10,31 +10,12 @@ ghost use Rattle.frame.specs.Told.{framing_of};
 use crate::limits;
 use crate::segment::{is_header, is_segment};
 use parts::far_end;
-use text::{Refusal, is_printable, is_same, marks_of};
+use text::{Refusal, every, is_printable, is_same, marks_of};
 
-#[derive(Clone, Copy)]
-pub enum Framing {
-    Refused(Refusal),
-    Framed,
-}
-
-fn is_allowed(b: u8) -> bool
-    ensures { result ≡ allowed b }
-{
-    is_printable(b) | (b == b'\r')
-}
-
-// No early way out, so that many bytes are tested at once.
 fn all_allowed(m: &[u8]) -> bool
     ensures { result ≡ every allowed m.now }
 {
-    let mut ok = true;
-    let mut i = 0;
-    while i < m.len() {
-        ok = ok & is_allowed(m[i]);
-        i += 1;
-    }
-    ok
+    every(m, |b| is_printable(b) | (b == b'\r'))
 }
 
 fn has_header(m: &[u8]) -> bool
@@ -47,7 +28,7 @@ fn has_header(m: &[u8]) -> bool
 }
 
 // BAD SEGMENT, SECOND HEADER, TOO MANY: one walk, since any bad segment comes before the other two.
-fn check_segments(m: &[u8]) -> Framing
+fn check_segments(m: &[u8]) -> Result<(), Refusal>
     ensures { framing_of result ≡ first (segment_tests m.now) tt }
 {
     let q = marks_of(m);
@@ -58,7 +39,7 @@ fn check_segments(m: &[u8]) -> Framing
     while end < m.len() {
         let s = &m[start..end];
         if !is_segment(q, s) {
-            return Framing::Refused(Refusal::BadSegment);
+            return Err(Refusal::BadSegment);
         }
         second = second | ((0 < start) & is_header(s));
         count += 1;
@@ -66,32 +47,32 @@ fn check_segments(m: &[u8]) -> Framing
         end = far_end(m, start, b'\r');
     }
     if second {
-        return Framing::Refused(Refusal::SecondHeader);
+        return Err(Refusal::SecondHeader);
     }
     if limits::MOST_SEGMENTS < count {
-        return Framing::Refused(Refusal::TooMany);
+        return Err(Refusal::TooMany);
     }
-    Framing::Framed
+    Ok(())
 }
 
 // The first of the eight refusals that applies. EMPTY and TOO LONG are found before any byte is read.
-pub fn check(m: &[u8]) -> Framing
+pub fn check(m: &[u8]) -> Result<(), Refusal>
     ensures { framing_of result ≡ first (frame_tests m.now) tt }
 {
     if m.len() == 0 {
-        return Framing::Refused(Refusal::Empty);
+        return Err(Refusal::Empty);
     }
     if limits::LONGEST_MESSAGE < m.len() {
-        return Framing::Refused(Refusal::TooLong);
+        return Err(Refusal::TooLong);
     }
     if !all_allowed(m) {
-        return Framing::Refused(Refusal::BadByte);
+        return Err(Refusal::BadByte);
     }
     if !has_header(m) {
-        return Framing::Refused(Refusal::NoHeader);
+        return Err(Refusal::NoHeader);
     }
     if m[m.len() - 1] != b'\r' {
-        return Framing::Refused(Refusal::NoEnd);
+        return Err(Refusal::NoEnd);
     }
     check_segments(m)
 }

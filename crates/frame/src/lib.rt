@@ -5,5 +5,5 @@ mod checks;
 pub mod limits;
 mod segment;
 
-pub use checks::{Framing, check};
+pub use checks::check;
 pub use segment::{has_name, is_header, is_name};

@@ -14,7 +14,7 @@ use Rattle.text.specs.declared.marks.Marks.{Marks}
 use Rattle.text.proofs.Tests.{both}
 use Rattle.text.proofs.Lists.{or_assoc, or-false}
 use Rattle.cursor.specs.declared.Cursor.{Cursor}
-use Rattle.parts.specs.declared.Span.{Span}
+use Rattle.text.specs.declared.span.Span.{Span}
 use Rattle.parts.specs.Split.{split, piece}
 use Rattle.parts.specs.Start.{start}
 use Rattle.parts.specs.Descent.{step}
@@ -24,11 +24,13 @@ use Rattle.cursor.specs.Cursor.{IsPiece}
 use Rattle.parts.proofs.Split.{piece_le}
 use Rattle.parts.proofs.Descent.{within-piece}
 use Rattle.cursor.proofs.Moving.{cursor-text, cursor_past}
-use Rattle.codes.specs.declared.rows.Rows.{Rows}
 use Rattle.profile.specs.Table.{Leaf}
 use Rattle.profile.specs.Numbers as row
 use Rattle.profile.specs.Order.{reason_fits}
 use Rattle.codes.specs.Inner.{Ascends, next, Lists, leaves_at}
+use Rattle.std.specs.Prelude.{None, Result, Ok, Err}
+use Rattle.checks.specs.declared.reasons.Reason.{Reason}
+use Rattle.checks.specs.declared.reasons.Reason.TheVariants.{Missing}
 use Rattle.leaves.specs.declared.repetition.ReadRepetition.{ReadRepetition}
 use Rattle.checks.specs.Place.{Place, place}
 use Rattle.checks.specs.Repetition.{leaf_in}
@@ -36,11 +38,11 @@ use Rattle.checks.proofs.Filled.{none_filled, no_leaf}
 use Rattle.checks.specs.View.{is_filled}
 use Rattle.checks.specs.Repetition.{entries_of}
 use Rattle.checks.specs.Fault.{Verdict, accepted, fault, leaf_checks, repetition_checks, first_broken}
-use Rattle.leaves.specs.Judged.{told, ReadsMissing, ReadsRepetition}
+use Rattle.leaves.specs.Judged.{told, told_in, ReadsMissing, ReadsRepetition}
 use Rattle.codes.proofs.RowSteps.{rows_next, rows_none}
 use Rattle.parts.proofs.Descent.{part-nil}
 use Rattle.leaves.proofs.LeafRule.{rule-missing, rule-empty}
-use Rattle.leaves.proofs.Breaks.{or_else, or_else_none, broken-flat, told_none, told-some}
+use Rattle.leaves.proofs.Breaks.{or_else, or_else_none, broken-flat, broken_at, told_at, told_none, told_kept}
 
 -- the first broken check of these leaves
 abbrev pub broken : Marks → List Leaf → Text → Text → ℕ → ℕ → ℕ → Verdict
@@ -67,19 +69,20 @@ module _ (q : Marks) (s : Text) (c : Cursor) (h : IsPiece q.component s c) (last
 -- of all leaves these are left to be read; that was found before them
 pub record Left (q : Marks) (s : Text) (all ls : List Leaf) (found : ReadRepetition) : Type 0 where
   pub fills : is_filled (entries_of q all s) ≡ found.filled || is_filled (entries_of q ls s)
-  pub breaks : (n : Text) (o f k : ℕ) → broken q all s n o f k ≡ or_else (told (place n o f k found.component found.subcomponent) found.reason) (broken q ls s n o f k)
+  pub breaks : (n : Text) (o f k : ℕ) → broken q all s n o f k ≡ or_else (told_in (place n o f k) found.broken) (broken q ls s n o f k)
 
 abbrev pub nothing : ReadRepetition
-nothing = record { filled = false; reason = 0; component = 0; subcomponent = 0 }
+nothing = record { filled = false; broken = None }
 
 module _ (q : Marks) (s : Text) where
   pub left-all : (all : List Leaf) → Left q s all all nothing
   left-all all = record { fills = refl; breaks = λ n o f k. refl }
 
-  broken-next : (l : Leaf) (ls : List Leaf) (n : Text) (o f k : ℕ) (r : ℕ)
+  broken-next : (l : Leaf) (ls : List Leaf) (n : Text) (o f k : ℕ) (r : Result Unit Reason)
       → ((p : Place) → told p r ≡ first_broken (leaf_checks q p l (leaf_in q s l.component l.subcomponent)))
-      → broken q (l ∷ ls) s n o f k ≡ or_else (told (place n o f k l.component l.subcomponent) r) (broken q ls s n o f k)
-  broken-next l ls n o f k r h = rw (h (place n o f k l.component l.subcomponent)) (broken-flat _ _ (entries_of q ls s))
+      → broken q (l ∷ ls) s n o f k ≡ or_else (told_in (place n o f k) (broken_at r l.component l.subcomponent)) (broken q ls s n o f k)
+  broken-next l ls n o f k r h =
+      rw (told_at (place n o f k) r l.component l.subcomponent, h (place n o f k l.component l.subcomponent)) (broken-flat _ _ (entries_of q ls s))
 
   module _ (all ls : List Leaf) (l : Leaf) (found : ReadRepetition) (h : Left q s all (l ∷ ls) found) (here : Bool) (fills : here ≡ not (empty (leaf_in q s l.component l.subcomponent))) where
     fills-on : is_filled (entries_of q all s) ≡ found.filled || here || is_filled (entries_of q ls s)
@@ -87,21 +90,21 @@ module _ (q : Marks) (s : Text) where
     fills-on = h.fills ∙ rw fills (sym (or_assoc found.filled (not (empty (leaf_in q s l.component l.subcomponent))) (is_filled (entries_of q ls s))))
 
     -- nothing was broken before this leaf
-    pub left-judged : found.reason ≡ 0 → (r : ℕ) → ((p : Place) → told p r ≡ first_broken (leaf_checks q p l (leaf_in q s l.component l.subcomponent)))
-        → Left q s all ls (record { filled = found.filled || here; reason = r; component = l.component; subcomponent = l.subcomponent })
+    pub left-judged : found.broken ≡ None → (r : Result Unit Reason) → ((p : Place) → told p r ≡ first_broken (leaf_checks q p l (leaf_in q s l.component l.subcomponent)))
+        → Left q s all ls (record { filled = found.filled || here; broken = broken_at r l.component l.subcomponent })
     left-judged e r g =
         record {
           fills = fills-on;
-          breaks = λ n o f k. h.breaks n o f k ∙ rw (told_none (place n o f k found.component found.subcomponent) found.reason e) (broken-next l ls n o f k r g);
+          breaks = λ n o f k. h.breaks n o f k ∙ rw (told_none (place n o f k) found.broken e) (broken-next l ls n o f k r g);
         }
 
     -- something was
-    pub left_passed : (found.reason ≡ 0 → ⊥)
-        → Left q s all ls (record { filled = found.filled || here; reason = found.reason; component = found.component; subcomponent = found.subcomponent })
+    pub left_passed : (found.broken ≡ None → ⊥)
+        → Left q s all ls (record { filled = found.filled || here; broken = found.broken })
     left_passed e =
         record {
           fills = fills-on;
-          breaks = λ n o f k. h.breaks n o f k ∙ rw (told-some (place n o f k found.component found.subcomponent) found.reason e);
+          breaks = λ n o f k. h.breaks n o f k ∙ told_kept (place n o f k) found.broken e _ ∙ sym (told_kept (place n o f k) found.broken e _);
         }
 
   -- no leaf is left
@@ -110,7 +113,7 @@ module _ (q : Marks) (s : Text) where
   left-none all found h =
       record {
         filled = sym (h.fills ∙ or-false found.filled);
-        first = λ n o f k. sym (h.breaks n o f k ∙ or_else_none (told (place n o f k found.component found.subcomponent) found.reason));
+        first = λ n o f k. sym (h.breaks n o f k ∙ or_else_none (told_in (place n o f k) found.broken));
       }
 
   -- those left are all missing
@@ -118,19 +121,19 @@ module _ (q : Marks) (s : Text) where
     filled-before : found.filled ≡ is_filled (entries_of q all s)
     filled-before = sym (h.fills ∙ rw (none, none_filled q ls) (or-false found.filled))
 
-    pub left-broken : (found.reason ≡ 0 → ⊥) → ReadsRepetition q all s found
+    pub left-broken : (found.broken ≡ None → ⊥) → ReadsRepetition q all s found
     left-broken e =
         record {
           filled = filled-before;
-          first = λ n o f k. sym (h.breaks n o f k ∙ rw (told-some (place n o f k found.component found.subcomponent) found.reason e));
+          first = λ n o f k. sym (h.breaks n o f k ∙ told_kept (place n o f k) found.broken e _);
         }
 
-    pub left-missing : found.reason ≡ 0 → (r : ReadRepetition) → r.filled ≡ found.filled
-        → ((n : Text) (o f k : ℕ) → told (place n o f k r.component r.subcomponent) r.reason ≡ broken q ls [] n o f k) → ReadsRepetition q all s r
+    pub left-missing : found.broken ≡ None → (r : ReadRepetition) → r.filled ≡ found.filled
+        → ((n : Text) (o f k : ℕ) → told_in (place n o f k) r.broken ≡ broken q ls [] n o f k) → ReadsRepetition q all s r
     left-missing e r i g =
         record {
           filled = i ∙ filled-before;
-          first = λ n o f k. g n o f k ∙ sym (h.breaks n o f k ∙ rw (told_none (place n o f k found.component found.subcomponent) found.reason e, none));
+          first = λ n o f k. g n o f k ∙ sym (h.breaks n o f k ∙ rw (told_none (place n o f k) found.broken e, none));
         }
 
 -- a text that stands between two places is empty where they are one
@@ -176,7 +179,7 @@ pub rises : (k : ℕ) (l : Leaf) (ls : List Leaf) → Ascends k (l ∷ ls) → (
 rises k l ls (next a b r) = (a, b, r)
 
 module _ {s : Text} {q : Marks} {table : List ℕ} where
-  pub reading-first : {r : Rows} {c : Cursor} → Lists table r (leaves_at table r) → IsPiece q.component s c × (c.number ≡ 1)
+  pub reading-first : {r : Span} {c : Cursor} → Lists table r (leaves_at table r) → IsPiece q.component s c × (c.number ≡ 1)
       → Reading s q table r.start r.end nothing c r.start
   reading-first {r} h p =
       record {
@@ -220,10 +223,10 @@ module _ {s : Text} {q : Marks} {table : List ℕ} where
             let less : c.number < l.component = rw (get_or-drop at table component_column 0) (ltb-true c.number (get_or table (at + component_column) 0) b.0) in
             rw (rows_next table at end more, leaf-missing q s c w.piece last l.component l.subcomponent less, entries-missing q s c w.piece last l.component rest rise.2 less)
 
-        pub reading-broken : (found.reason ≡ 0 → ⊥) → ReadsRepetition q (leaves table first end) s found
+        pub reading-broken : (found.broken ≡ None → ⊥) → ReadsRepetition q (leaves table first end) s found
         reading-broken e = left-broken q s (leaves table first end) (leaves table at end) found w.left none_left e
 
-        pub reading-missing : found.reason ≡ 0 → (r : ReadRepetition) → ReadsMissing (leaves table at end) found.filled r → ReadsRepetition q (leaves table first end) s r
+        pub reading-missing : found.broken ≡ None → (r : ReadRepetition) → ReadsMissing (leaves table at end) found.filled r → ReadsRepetition q (leaves table first end) s r
         reading-missing e r g = left-missing q s (leaves table first end) (leaves table at end) found w.left none_left e r g.handed-on (g.first q)
 
       -- its component and its text are found
@@ -243,10 +246,10 @@ module _ {s : Text} {q : Marks} {table : List ℕ} where
         ascends-on : Ascends d.number rest
         ascends-on = rw (moved.1, ← get_or-drop at table component_column 0) rise.2
 
-        pub reading-judged : found.reason ≡ 0 → {r : ℕ}
+        pub reading-judged : found.broken ≡ None → (r : Result Unit Reason)
             → ((x : Place) → told x r ≡ first_broken (leaf_checks q x l (within p.start p.end (within d.start d.end s))))
-            → Reading s q table first end (record { filled = found.filled || ltb p.start p.end; reason = r; component = get_or table (at + component_column) 0; subcomponent = get_or table (at + subcomponent_column) 0 }) d (at + row_size)
-        reading-judged e {r} g =
+            → Reading s q table first end (record { filled = found.filled || ltb p.start p.end; broken = broken_at r (get_or table (at + component_column) 0) (get_or table (at + subcomponent_column) 0) }) d (at + row_size)
+        reading-judged e r g =
             record {
               order = omega arith;
               inside = w.inside;
@@ -255,8 +258,8 @@ module _ {s : Text} {q : Marks} {table : List ℕ} where
               left = rw (← get_or-drop at table component_column 0, ← get_or-drop at table subcomponent_column 0) (left-judged q s (leaves table first end) rest l found left (ltb p.start p.end) fills e r (λ x. g x ∙ ap (λ (y : Text). first_broken (leaf_checks q x l y)) same_text));
             }
 
-        pub reading-passed : (found.reason ≡ 0 → ⊥)
-            → Reading s q table first end (record { filled = found.filled || ltb p.start p.end; reason = found.reason; component = found.component; subcomponent = found.subcomponent }) d (at + row_size)
+        pub reading-passed : (found.broken ≡ None → ⊥)
+            → Reading s q table first end (record { filled = found.filled || ltb p.start p.end; broken = found.broken }) d (at + row_size)
         reading-passed e =
             record {
               order = omega arith;
@@ -281,8 +284,8 @@ module _ {table : List ℕ} {first end : ℕ} where
     search_none none q = (left-none q [] (leaves table first end) nothing (rw (rows_none table at end none) at (w.left q))).first
 
     module _ (more : row_size ≤ end - at) where
-      judged : (q : Marks) (r : ℕ) → ((p : Place) → told p r ≡ first_broken (leaf_checks q p (row.leaf_of (drop at table)) []))
-          → Left q [] (leaves table first end) (leaves table (at + row_size) end) (record { filled = false; reason = r; component = get_or (drop at table) component_column 0; subcomponent = get_or (drop at table) subcomponent_column 0 })
+      judged : (q : Marks) (r : Result Unit Reason) → ((p : Place) → told p r ≡ first_broken (leaf_checks q p (row.leaf_of (drop at table)) []))
+          → Left q [] (leaves table first end) (leaves table (at + row_size) end) (record { filled = false; broken = broken_at r (get_or (drop at table) component_column 0) (get_or (drop at table) subcomponent_column 0) })
       judged q r g =
           let l = row.leaf_of (drop at table) in
           let e = no_leaf q l.component l.subcomponent in
@@ -292,7 +295,7 @@ module _ {table : List ℕ} {first end : ℕ} where
           → fault (place n o f k (get_or table (at + component_column) 0) (get_or table (at + subcomponent_column) 0)) 3 ≡ broken q (leaves table first end) [] n o f k
       search_found e q =
           rw (← get_or-drop at table component_column 0, ← get_or-drop at table subcomponent_column 0)
-          (left-broken q [] (leaves table first end) (leaves table (at + row_size) end) _ (judged q 3 (rule-missing q table at [] refl e)) refl (λ z. omega (arith, z))).first
+          (left-broken q [] (leaves table first end) (leaves table (at + row_size) end) _ (judged q (Err Missing) (rule-missing q table at [] refl e)) refl (λ z. cc z)).first
 
       pub search_on : (get_or table (at + star_column) 0 ≡ 1 → ⊥) → Search table first end (at + row_size)
       search_on e =
@@ -301,6 +304,6 @@ module _ {table : List ℕ} {first end : ℕ} where
             inside = w.inside;
             left =
                 λ q.
-                let h = judged q 0 (rule-empty q table at [] refl e) in
+                let h = judged q (Ok tt) (rule-empty q table at [] refl e) in
                 record { fills = h.fills; breaks = h.breaks };
           }

@@ -6,14 +6,13 @@ use mathlib.Core.Bool.{Bool, true, false, not}
 use mathlib.Core.List.{List, [], ◌∷◌}
 use lib.ListN.{length, get_or, drop}
 use lib.Seq.{get_or-drop}
-use lib.Dec.{eqb, leb}
-use borrow.Author.Tests.{eq-eqb, ne_eqb, lt-ltb, le-ltb, leb-true}
+use borrow.Author.Tests.{eq-eqb, ne_eqb, lt-ltb, le-ltb}
 use Rattle.text.specs.Bytes.{Text, pick, empty}
 use Rattle.escape.specs.Escape.{bad_escape, resolved}
 use Rattle.escape.specs.Length.{Measures}
-use Rattle.escape.specs.declared.Length.TheVariants.{Bytes}
 use Rattle.text.specs.declared.marks.Marks.{Marks}
-use Rattle.text.proofs.Tests.{both, not-true as no, empty-none, empty-some}
+use Rattle.text.specs.Ranges.{◌to◌, is_within}
+use Rattle.text.proofs.Tests.{not-true as no, empty-none, empty-some}
 use Rattle.profile.specs.Table.{Codes, any, only, Leaf, of_type, no_such_day}
 use Rattle.profile.specs.Numbers.{leaf_of, simple_of, codes_of, is_in_list, limit_column, list_column, reason_column, star_column, type_column}
 use Rattle.profile.specs.Order.{reason_fits}
@@ -22,7 +21,12 @@ use Rattle.escape.proofs.Escapes.{bad-none, resolved-length}
 use Rattle.codes.proofs.Numbered.{other-type, other_day}
 use Rattle.checks.specs.Place.{Place}
 use Rattle.checks.specs.Fault.{Verdict, accepted, fault, Check, check, list_checks, leaf_checks, first_broken}
+use Rattle.std.specs.Prelude.{Some, Result, Ok, Err}
+use Rattle.checks.specs.declared.reasons.Reason.{Reason}
+use Rattle.checks.specs.declared.reasons.Reason.TheVariants.{NotOfItsType, NoSuchDay}
+use Rattle.checks.specs.Reasons.{number_of_reason}
 use Rattle.leaves.specs.Judged.{told, type_reason}
+use Rattle.leaves.proofs.Breaks.{or_else}
 
 -- no bytes, no escape
 no_escape : (q : Marks) (s : Text) → length s ≡ 0 → bad_escape q s ≡ false
@@ -50,22 +54,20 @@ by_list p zero n s e = refl
 by_list p (suc i) n s e = rw e
 
 -- so where a text is not in its list there is one, and its reason is from 1 to 12
-reason_range : (i n : ℕ) (s : Text) (listed : Bool) → listed ≡ is_in_list i s → not listed ≡ true → reason_fits (codes_of i n) ≡ true → (1 ≤ n) × (n ≤ 12)
+reason_range : (i n : ℕ) (s : Text) (listed : Bool) → listed ≡ is_in_list i s → not listed ≡ true → reason_fits (codes_of i n) ≡ true → is_within (1 to 12) n ≡ true
 reason_range zero n s true e f h = no f
 reason_range zero n s false e f h = no e
-reason_range (suc i) n s listed e f h =
-    let w = both (leb 1 n) (leb n 12) h in
-    (leb-true 1 n w.0, leb-true n 12 w.1)
+reason_range (suc i) n s listed e f h = h
 
 pub row_reason : (table : List ℕ) (at : ℕ) (s : Text) (listed : Bool) → listed ≡ is_in_list (get_or table (at + list_column) 0) s → not listed ≡ true
-    → reason_fits (leaf_of (drop at table)).list ≡ true → (1 ≤ get_or table (at + reason_column) 0) × (get_or table (at + reason_column) 0 ≤ 12)
+    → reason_fits (leaf_of (drop at table)).list ≡ true → is_within (1 to 12) (get_or table (at + reason_column) 0) ≡ true
 row_reason table at s listed e f h =
     reason_range (get_or table (at + list_column) 0) (get_or table (at + reason_column) 0) s listed e f
     (rw (get_or-drop at table list_column 0, get_or-drop at table reason_column 0) at h)
 
 -- the form, the day, and what comes after them
 type-step : (typed no_such : Bool) (p : Place) (cs : List Check)
-    → first_broken (check p 7 (not typed) ∷ check p 13 no_such ∷ cs) ≡ pick (eqb (pick typed (pick no_such 13 0) 7) 0) (first_broken cs) (fault p (pick typed (pick no_such 13 0) 7))
+    → first_broken (check p 7 (not typed) ∷ check p 13 no_such ∷ cs) ≡ or_else (told p (pick typed (pick no_such (Err NoSuchDay) (Ok tt)) (Err NotOfItsType))) (first_broken cs)
 unfolding first_broken
 type-step true true p cs = refl
 type-step true false p cs = refl
@@ -101,7 +103,7 @@ module _ (q : Marks) (table : List ℕ) (at : ℕ) (s : Text) where
     filled : empty s ≡ false
     filled = empty-some s some
 
-    module _ (n : ℕ) (measured : Measures q s (Bytes n)) where
+    module _ (n : ℕ) (measured : Measures q s (Some n)) where
       pub rule-long : number limit_column < n → (p : Place) → fault p 5 ≡ first p
       unfolding first_broken
       rule-long l p = rw (filled, measured.0, get_or-drop at table limit_column 0, ← measured.1, lt-ltb (number limit_column) n l)
@@ -111,28 +113,27 @@ module _ (q : Marks) (table : List ℕ) (at : ℕ) (s : Text) where
         unfolding first_broken
         short p = rw (filled, measured.0, get_or-drop at table limit_column 0, ← measured.1, le-ltb (number limit_column) n fits, get_or-drop at table type_column 0, get_or-drop at table list_column 0, get_or-drop at table reason_column 0)
 
-        module _ (why : ℕ) (is-why : why ≡ type_reason (simple_of (number type_column)) s) where
-          by_type : (p : Place) → first p ≡ pick (eqb why 0) (first_broken (list_checks p list s)) (fault p why)
+        module _ (why : Result Unit Reason) (is-why : why ≡ type_reason (simple_of (number type_column)) s) where
+          by_type : (p : Place) → first p ≡ or_else (told p why) (first_broken (list_checks p list s))
           by_type p = rw (short p, is-why) (type-step typed no_such p (list_checks p list s))
 
-          pub rule-type : (why ≡ 0 → ⊥) → (p : Place) → told p why ≡ first p
-          rule-type e p = rw (by_type p, ne_eqb why 0 e)
+          pub rule-type : (r : Reason) → why ≡ Err r → (p : Place) → fault p (number_of_reason r) ≡ first p
+          rule-type r e p = rw (by_type p, e)
 
-          module _ (taken : why ≡ 0) (listed : Bool) (is-listed : listed ≡ is_in_list (number list_column) s) where
-            pub rule-list : not listed ≡ true → reason_fits (leaf_of (drop at table)).list ≡ true → (p : Place) → told p (number reason_column) ≡ first p
-            rule-list e h p =
-                let l = (row_reason table at s listed is-listed e h).0 in
-                rw (by_type p, taken, by_list p (number list_column) (number reason_column) s filled, ← is-listed, e, ne_eqb (number reason_column) 0 (λ z. omega (arith, l, z)))
+          module _ (taken : why ≡ Ok tt) (listed : Bool) (is-listed : listed ≡ is_in_list (number list_column) s) where
+            pub rule-list : not listed ≡ true → (r : Reason) → number_of_reason r ≡ number reason_column → (p : Place) → fault p (number_of_reason r) ≡ first p
+            rule-list e r named p =
+                rw (by_type p, taken, by_list p (number list_column) (number reason_column) s filled, ← is-listed, e, named)
 
             pub rule-good : not listed ≡ false → (p : Place) → accepted ≡ first p
             rule-good e p = rw (by_type p, taken, by_list p (number list_column) (number reason_column) s filled, ← is-listed, e)
 
 -- a leaf whose type and list take any text
-takes-any : (n : ℕ) (s : Text) → 4 < n → 0 ≡ type_reason (simple_of n) s
+takes-any : (n : ℕ) (s : Text) → 4 < n → Ok tt ≡ type_reason (simple_of n) s
 takes-any n s h = rw (← other-type n s (λ z. omega (arith, h, z)) (λ z. omega (arith, h, z)) (λ z. omega (arith, h, z)) (λ z. omega (arith, h, z)), other_day n s (λ z. omega (arith, h, z)))
 
-pub rule-any : (q : Marks) (table : List ℕ) (at : ℕ) (s : Text) (n : ℕ) → Measures q s (Bytes n) → 0 < n → n ≤ get_or table (at + limit_column) 0 → 4 < get_or table (at + type_column) 0
+pub rule-any : (q : Marks) (table : List ℕ) (at : ℕ) (s : Text) (n : ℕ) → Measures q s (Some n) → 0 < n → n ≤ get_or table (at + limit_column) 0 → 4 < get_or table (at + type_column) 0
     → get_or table (at + list_column) 0 ≡ 0 → (p : Place) → accepted ≡ first_broken (leaf_checks q p (leaf_of (drop at table)) s)
 rule-any q table at s n measured some fits type list p =
-    rule-good q table at s (λ z. omega (arith, z, some, measured.1, resolved-length q s)) n measured fits 0
+    rule-good q table at s (λ z. omega (arith, z, some, measured.1, resolved-length q s)) n measured fits (Ok tt)
     (takes-any (get_or table (at + type_column) 0) s type) refl true (rw list) refl p

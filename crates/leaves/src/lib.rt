@@ -4,5 +4,5 @@
 mod repetition;
 mod rule;
 
-pub use repetition::{ReadRepetition, missing_leaves, read_repetition};
+pub use repetition::{BrokenLeaf, ReadRepetition, missing_leaves, read_repetition};
 pub use rule::{plain_reason, takes_any};

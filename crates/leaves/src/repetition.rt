@@ -4,24 +4,29 @@ ghost use Rattle.codes.specs.Inner.{Lists, leaves_at};
 ghost use Rattle.leaves.specs.Judged.{ReadsMissing, ReadsRepetition};
 
 use crate::rule::leaf_reason;
-use checks::reasons;
-use codes::Rows;
+use checks::reasons::Reason;
 use cursor::{advance, first_piece};
 use parts::piece;
 use profile::{columns, numbers};
-use text::Marks;
+use text::{Marks, Span};
 
-// Whether a repetition is filled; the reason of its first broken check, 0 where there is none, and the place of that leaf.
-#[derive(Clone, Copy)]
-pub struct ReadRepetition {
-    pub filled: bool,
-    pub reason: u8,
+// A leaf whose text breaks a check: which check, and where the leaf stands in its repetition.
+#[derive(Clone, Copy, PartialEq, Eq, Debug)]
+pub struct BrokenLeaf {
+    pub reason: Reason,
     pub component: u64,
     pub subcomponent: u64,
 }
 
+// Whether a repetition is filled, and its first broken leaf.
+#[derive(Clone, Copy, PartialEq, Eq, Debug)]
+pub struct ReadRepetition {
+    pub filled: bool,
+    pub broken: Option<BrokenLeaf>,
+}
+
 // What is found of leaves that are all missing: the first that is required. `filled` is told of those before them.
-pub fn missing_leaves(filled: bool, table: &[u16], rows: Rows) -> ReadRepetition
+pub fn missing_leaves(filled: bool, table: &[u16], rows: Span) -> ReadRepetition
     requires { (rows.start ≤ rows.end) × (rows.end ≤ length table.now) }
     ensures { ReadsMissing (leaves_at table.now rows) filled result }
 {
@@ -29,34 +34,33 @@ pub fn missing_leaves(filled: bool, table: &[u16], rows: Rows) -> ReadRepetition
     let end = rows.end;
     while columns::ROW <= end - at {
         if table[at + columns::STAR] == numbers::STARRED {
-            return ReadRepetition {
-                filled,
-                reason: reasons::MISSING,
+            let leaf = BrokenLeaf {
+                reason: Reason::Missing,
                 component: table[at + columns::COMPONENT] as u64,
                 subcomponent: table[at + columns::SUBCOMPONENT] as u64,
+            };
+            return ReadRepetition {
+                filled,
+                broken: Some(leaf),
             };
         }
         at += columns::ROW;
     }
     ReadRepetition {
         filled,
-        reason: reasons::NOTHING_BROKEN,
-        component: 0,
-        subcomponent: 0,
+        broken: None,
     }
 }
 
 // Reads a repetition's listed leaves, components rising, each byte passed once on the way from component to component.
 // After the last component there is nothing to read.
-pub fn read_repetition(s: &[u8], q: Marks, table: &[u16], rows: Rows) -> ReadRepetition
+pub fn read_repetition(s: &[u8], q: Marks, table: &[u16], rows: Span) -> ReadRepetition
     requires { Lists table.now rows (leaves_at table.now rows) }
     ensures { ReadsRepetition q (leaves_at table.now rows) s.now result }
 {
     let mut found = ReadRepetition {
         filled: false,
-        reason: reasons::NOTHING_BROKEN,
-        component: 0,
-        subcomponent: 0,
+        broken: None,
     };
     let mut cursor = first_piece(s, q.component, true);
     let mut at = rows.start;
@@ -64,8 +68,8 @@ pub fn read_repetition(s: &[u8], q: Marks, table: &[u16], rows: Rows) -> ReadRep
     while columns::ROW <= end - at {
         let number = table[at + columns::COMPONENT] as u64;
         if (cursor.number < number) & (s.len() <= cursor.end) {
-            if found.reason == reasons::NOTHING_BROKEN {
-                return missing_leaves(found.filled, table, Rows { start: at, end });
+            if found.broken.is_none() {
+                return missing_leaves(found.filled, table, Span { start: at, end });
             }
             return found;
         }
@@ -78,10 +82,13 @@ pub fn read_repetition(s: &[u8], q: Marks, table: &[u16], rows: Rows) -> ReadRep
         let a = p.start;
         let b = p.end;
         found.filled = found.filled | (a < b);
-        if found.reason == reasons::NOTHING_BROKEN {
-            found.reason = leaf_reason(&part[a..b], q, table, at);
-            found.component = number;
-            found.subcomponent = sub;
+        if found.broken.is_none() {
+            let leaf = leaf_reason(&part[a..b], q, table, at);
+            found.broken = leaf.err().map(|reason| BrokenLeaf {
+                reason,
+                component: number,
+                subcomponent: sub,
+            });
         }
         at += columns::ROW;
     }

@@ -3,16 +3,17 @@ use mathlib.Core.Path.{◌≡◌, refl, sym, ap, ◌∙◌}
 use Prim.Native.Nat.{ℕ, zero, suc, ◌+◌, ◌-◌, ◌≤◌, ◌<◌}
 use native.Mathlib.Numerals.{add-one}
 use native.Mathlib.Omega.{arith}
-use mathlib.Core.Bool.{Bool, true, false}
+use mathlib.Core.Bool.{Bool, true, false, ◌&&◌}
 use mathlib.Core.List.{List, [], ◌∷◌, map}
 use lib.ListN.{length, get_or, drop, length-take, length-drop}
-use lib.Seq.{take-take, get_or-drop}
+use lib.Seq.{get_or-drop}
 use lib.Dec.{eqb}
 use borrow.Author.Tests.{eq-eqb, eqb-true}
+use Rattle.std.specs.Cmp.Lexicographic.{pointwise}
+use Rattle.std.specs.List.{starts_with}
 use Rattle.text.specs.Bytes.{Text, pick, cr, keep, same, within}
-use Rattle.text.proofs.Tests.{same_true, same_length}
+use Rattle.text.proofs.Tests.{same_true}
 use Rattle.parts.specs.Start.{reach}
-use Rattle.parts.proofs.Descent.{within-length}
 use Rattle.parts.proofs.Reach.{ended-on}
 use Rattle.frame.specs.Segments.{segments, name}
 use Rattle.profile.specs.Numbers.{segment_number}
@@ -43,9 +44,9 @@ earliest sep (b ∷ t) zero h e = rw (eq-eqb b sep e) (omega arith)
 earliest sep (b ∷ t) (suc i) h e = earliest-step (eqb b sep) (reach sep t) i (earliest sep t i (omega arith) e)
 
 -- the segment before one that starts there ends before it
-ends-before : (m : Text) (at start : ℕ) → at < start → start ≤ length m → Opens m start → at + reach cr (drop at m) < start
-ends-before m at zero l h o = absurd (omega arith)
-ends-before m at (suc i) l h o =
+pub ends_before : (m : Text) (at start : ℕ) → at < start → start ≤ length m → Opens m start → at + reach cr (drop at m) < start
+ends_before m at zero l h o = absurd (omega arith)
+ends_before m at (suc i) l h o =
     let e : at + (i - at) ≡ i = omega arith in
     omega (arith, earliest cr (drop at m) (i - at) (omega (arith, length-drop at m)) (get_or-drop at m (i - at) 0 ∙ rw e o))
 
@@ -81,19 +82,20 @@ other_name n x l z = other_step n x (same n x) refl l z
 
 -- ---- whether a segment has the name that stands there
 
-module _ (m : Text) (start at end : ℕ) (inside : start + 3 ≤ length m) (order : at ≤ end) (high : end ≤ length m) where
-  pub namesake-short : end - at < 3 → false ≡ same (name_at m start) (name (within at end m))
-  namesake-short l =
-      sym
-      (same_length (name_at m start) (name (within at end m))
-      (λ e. omega (arith, e, length-take 3 (drop start m), length-drop start m, length-take 3 (within at end m), within-length m at end order high)))
+-- the library's test of bytes is this repository's
+same-bytes : (s t : Text) → same s t ≡ pointwise eqb s t
+unfolding same
+same-bytes [] [] = refl
+same-bytes [] (y ∷ t) = refl
+same-bytes (x ∷ s) [] = refl
+same-bytes (x ∷ s) (y ∷ t) = ap (λ b. eqb x y && b) (same-bytes s t)
 
-  pub namesake-long : 3 ≤ end - at → (r : Bool) → r ≡ same (within start (start + 3) m) (within at (at + 3) m)
-      → r ≡ same (name_at m start) (name (within at end m))
-  namesake-long l r e =
-      let a : start + 3 - start ≡ 3 = omega arith in
-      let b : at + 3 - at ≡ 3 = omega arith in
-      e ∙ rw (a, b, take-take 3 (end - at) (drop at m) l)
+pub is_namesake : (m : Text) (start at end : ℕ) → start + 3 ≤ length m → (r : Bool)
+    → r ≡ starts_with eqb (within at end m) (within start (start + 3) m) → r ≡ same (name_at m start) (name (within at end m))
+is_namesake m start at end inside r e =
+    let a : start + 3 - start ≡ 3 = omega arith in
+    let l : length (name_at m start) ≡ 3 = omega (arith, length-take 3 (drop start m), length-drop start m) in
+    (rw (a, l) at e) ∙ sym (same-bytes (name_at m start) (name (within at end m)))
 
 -- ---- the occurrence, told from where the count stands
 
@@ -106,10 +108,10 @@ pub record Counted (m : Text) (start occurrence at : ℕ) : Type 0 where
 pub counted-first : (m : Text) (start : ℕ) → Counted m start 1 0
 counted-first m start = record { low = omega arith; some = omega arith; few = omega arith; counted = omega arith }
 
-module _ (m : Text) (start occurrence at : ℕ) (w : Counted m start occurrence at) where
-  module _ (inside : start + 3 ≤ length m) (opens : Opens m start) (before : at < start) (end : ℕ) (ends : end ≡ at + reach cr (drop at m)) where
-    pub counted-end : end < start
-    counted-end = rw ends (ends-before m at start before (omega arith) opens)
+module _ {m : Text} {start occurrence at : ℕ} (w : Counted m start occurrence at) where
+  module _ (inside : start + 3 ≤ length m) (opens : Opens m start) (before : at < start) {end : ℕ} (ends : end ≡ at + reach cr (drop at m)) where
+    counted-end : end < start
+    counted-end = rw ends (ends_before m at start before (omega arith) opens)
 
     abbrev namesake : Bool
     namesake = same (name_at m start) (name (within at end m))
@@ -126,11 +128,11 @@ module _ (m : Text) (start occurrence at : ℕ) (w : Counted m start occurrence 
           counted = omega (arith, w.counted, rw e at one_on);
         }
 
-    pub counted-more : (r : Bool) (b : ℕ) → r ≡ namesake → r ≡ true → b ≡ occurrence + 1 → Counted m start b (end + 1)
-    counted-more r b e t f = on true b (sym e ∙ t) f (omega arith)
+    pub counted-more : {r : Bool} {b : ℕ} → r ≡ namesake → r ≡ true → b ≡ occurrence + 1 → Counted m start b (end + 1)
+    counted-more e t f = on _ _ (sym e ∙ t) f (omega arith)
 
-    pub counted-other : (r : Bool) (b : ℕ) → r ≡ namesake → r ≡ false → b ≡ occurrence → Counted m start b (end + 1)
-    counted-other r b e t f = on false b (sym e ∙ t) (omega arith) (omega arith)
+    pub counted-other : {r : Bool} {b : ℕ} → r ≡ namesake → r ≡ false → b ≡ occurrence → Counted m start b (end + 1)
+    counted-other e t f = on _ _ (sym e ∙ t) (omega arith) (omega arith)
 
   pub counted-all : start ≤ at → occurrence ≡ count_before m start (name_at m start) + 1
   counted-all l =

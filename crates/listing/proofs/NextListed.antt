@@ -42,7 +42,7 @@ name-three (x ∷ []) h = absurd (omega arith)
 name-three (x ∷ y ∷ []) h = absurd (omega arith)
 name-three (x ∷ y ∷ z ∷ s) h = refl
 
-module _ (m : Text) (at start end : ℕ) (w : Passed m at start end) where
+module _ {m : Text} {at start end : ℕ} (w : Passed m at start end) where
   module _ (more : end < length m) where
     abbrev s : Text
     s = within start end m
@@ -65,10 +65,10 @@ module _ (m : Text) (at start end : ℕ) (w : Passed m at start end) where
     listed : (t : List ℕ) → Sound t → (k : ℕ) → segment_number (name s) ≡ k → is_listed (table_of t) (name s) ≡ not (eqb k 0)
     listed t sound k e = listed-number t sound (name s) ∙ ap (λ (n : ℕ). not (eqb n 0)) e
 
-    pub passed-listed : (k : ℕ) → 3 ≤ end - start → k ≡ segment_number (get_or m start 0 ∷ get_or m (start + 1) 0 ∷ get_or m (start + 2) 0 ∷ [])
+    pub passed-listed : {k : ℕ} → 3 ≤ end - start → k ≡ segment_number (get_or m start 0 ∷ get_or m (start + 1) 0 ∷ get_or m (start + 2) 0 ∷ [])
         → (k ≡ 0 → ⊥) → (t : List ℕ) → Sound t → Next (table_of t) m at start end k
     unfolding keep
-    passed-listed k l e n t sound =
+    passed-listed {k} l e n t sound =
         let number = named k l e in
         let is : is_listed (table_of t) (name s) ≡ true = listed t sound k number ∙ ap not (ne_eqb k 0 n) in
         record {
@@ -90,13 +90,13 @@ module _ (m : Text) (at start end : ℕ) (w : Passed m at start end) where
           counts = λ n h. w.counts n h ∙ count-on m start end w.ends more n ∙ rw (other_name n (name s) h e, zero-add);
         }
 
-    pub passed-other : (k end' : ℕ) → 3 ≤ end - start → k ≡ segment_number (get_or m start 0 ∷ get_or m (start + 1) 0 ∷ get_or m (start + 2) 0 ∷ [])
+    pub passed-other : {k end' : ℕ} → 3 ≤ end - start → k ≡ segment_number (get_or m start 0 ∷ get_or m (start + 1) 0 ∷ get_or m (start + 2) 0 ∷ [])
         → k ≡ 0 → end' ≡ end + 1 + reach cr (drop (end + 1) m) → Passed m at (end + 1) end'
-    passed-other k end' l e z e' = on end' (named k l e ∙ z) e'
+    passed-other {k} {end'} l e z e' = on end' (named k l e ∙ z) e'
 
     -- fewer than three bytes are no name
-    pub passed-short : (end' : ℕ) → end - start < 3 → end' ≡ end + 1 + reach cr (drop (end + 1) m) → Passed m at (end + 1) end'
-    passed-short end' l e' = on end' (no_number (name s) (λ e. omega (arith, e, long, length-take 3 s))) e'
+    pub passed-short : {end' : ℕ} → end - start < 3 → end' ≡ end + 1 + reach cr (drop (end + 1) m) → Passed m at (end + 1) end'
+    passed-short {end'} l e' = on end' (no_number (name s) (λ e. omega (arith, e, long, length-take 3 s))) e'
 
   pub passed-all : length m ≤ end → (t : List ℕ) → Sound t → listed_segments (table_of t) (drop at m) ≡ []
   unfolding keep

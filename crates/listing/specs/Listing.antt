@@ -1,13 +1,12 @@
 -- Inner: no entry's promise is made of this.
 -- What only inner functions promise of listed segments: where one stands, how many of its name stand before it, and which is next.
-use Rattle.std.specs.Prelude.{ℕ, ◌+◌, ◌-◌, ◌≤◌, ◌<◌, ◌≡◌, [], ◌∷◌, map, length, get_or, take, drop}
+use Rattle.std.specs.Prelude.{ℕ, ◌+◌, ◌-◌, ◌≤◌, ◌<◌, ◌≡◌, [], ◌∷◌, map, length, get_or, take, drop, Option, Some, None}
 use Rattle.text.specs.Bytes.{Text, cr, within}
 use Rattle.parts.specs.Start.{reach}
 use Rattle.frame.specs.Segments.{segments, name}
 use Rattle.profile.specs.Table.{Table}
 use Rattle.profile.specs.Numbers.{segment_number}
 use Rattle.listing.specs.declared.Listed.{Listed}
-use Rattle.listing.specs.declared.Listed.TheVariants as listed
 use Rattle.checks.specs.View.{listed_segments}
 use Rattle.checks.specs.Fault.{count}
 
@@ -44,6 +43,6 @@ pub record Next (T : Table) (m : Text) (at start end k : ℕ) : Type 0 where
   pub first : listed_segments T (drop at m) ≡ within start end m ∷ listed_segments T (drop (end + 1) m)
   pub counts : (n : Text) → 1 ≤ segment_number n → count_from m at n ≡ count_from m start n
 
-abbrev pub NextIs : Table → Text → ℕ → Listed → Type 0
-NextIs T m at listed.None = listed_segments T (drop at m) ≡ []
-NextIs T m at (listed.Segment start end k) = Next T m at start end k
+abbrev pub NextIs : Table → Text → ℕ → Option Listed → Type 0
+NextIs T m at None = listed_segments T (drop at m) ≡ []
+NextIs T m at (Some l) = Next T m at l.start l.end l.number

@@ -10,21 +10,17 @@ ghost use Rattle.listing.specs.Listing.{name_at, count_before, Opens, NextIs};
 
 use codes::segment_number;
 use parts::far_end;
-use text::is_same;
 
 // Where a listed segment stands, its CR not counted, and the number of its name.
 #[derive(Clone, Copy)]
-pub enum Listed {
-    None,
-    Segment {
-        start: usize,
-        end: usize,
-        number: u16,
-    },
+pub struct Listed {
+    pub start: usize,
+    pub end: usize,
+    pub number: u16,
 }
 
 // The next listed segment: unlisted ones are passed over. Every table that keeps the rule lists the same names.
-pub fn next_listed(m: &[u8], at: usize) -> Listed
+pub fn next_listed(m: &[u8], at: usize) -> Option<Listed>
     requires { (at ≤ length m.now) × Opens m.now at }
     ensures { (t : List ℕ) → Sound t → NextIs (table_of t) m.now at result }
 {
@@ -34,13 +30,13 @@ pub fn next_listed(m: &[u8], at: usize) -> Listed
         if 3 <= end - start {
             let number = segment_number(m[start], m[start + 1], m[start + 2]);
             if number != 0 {
-                return Listed::Segment { start, end, number };
+                return Some(Listed { start, end, number });
             }
         }
         start = end + 1;
         end = far_end(m, start, b'\r');
     }
-    Listed::None
+    None
 }
 
 // Whether the segment from `at` up to `end` has the name that stands at `start`.
@@ -48,13 +44,11 @@ fn is_namesake(m: &[u8], start: usize, at: usize, end: usize) -> bool
     requires { (start + 3 ≤ length m.now) × ((at ≤ end) × (end ≤ length m.now)) }
     ensures { result ≡ same (name_at m.now start) (name (within at end m.now)) }
 {
-    if end - at < 3 {
-        return false;
-    }
-    is_same(&m[start..start + 3], &m[at..at + 3])
+    m[at..end].starts_with(&m[start..start + 3])
 }
 
 // Which of its name the segment that starts there is, from 1: one walk over those before it, made only where a fault is told.
+#[tactic(auto, using(crate::proofs::Counted::ends_before))]
 pub fn occurrence_at(m: &[u8], start: usize) -> u64
     requires { (start + 3 ≤ length m.now) × Opens m.now start }
     ensures { result ≡ count_before m.now start (name_at m.now start) + 1 }

@@ -17,7 +17,7 @@ use Rattle.parts.proofs.Descent.{within-length}
 use Rattle.cursor.proofs.Moving.{cursor, cursor-text, cursor-first}
 use Rattle.frame.specs.Segments.{field}
 use Rattle.profile.specs.Table.{Leaf}
-use Rattle.codes.specs.declared.rows.Rows.{Rows}
+use Rattle.text.specs.declared.span.Span.{Span}
 use Rattle.profile.specs.Codes.{HasLists}
 use Rattle.codes.specs.Inner.{Lists, Ascends, IsField, leaves_at, leaves_named}
 use Rattle.codes.proofs.OneField.{field-namer, leaves-plain, leaves-named}
@@ -89,7 +89,7 @@ module _ (q : Marks) (table : List ℕ) (s : Text) (k at end : ℕ) (is : IsFiel
   pub named-from : 10 ≤ get_or table (at + type_column) 0 → first_field k ≤ get_or table (at + type_column) 0 - 10
   named-from l = number_step k (get_or table (at + type_column) 0) (field-namer table k at end is l)
 
-  pub lists_named : (l : 10 ≤ get_or table (at + type_column) 0) (r : Rows) → Lists table r (leaves_named table (named_in q s (get_or table (at + type_column) 0 - 10))) → Lists table r (leaves_of_field q table s at end)
+  pub lists_named : (l : 10 ≤ get_or table (at + type_column) 0) (r : Span) → Lists table r (leaves_named table (named_in q s (get_or table (at + type_column) 0 - 10))) → Lists table r (leaves_of_field q table s at end)
   lists_named l r h = subst (λ (ls : List Leaf). Lists table r ls) (sym (leaves-named table k at end is l (named_in q s))) h
 
 -- the type that a field names is its first leaf
@@ -97,10 +97,10 @@ module _ (q : Marks) (table : List ℕ) (s : Text) (k : ℕ) (numbered : HasNumb
   named-text : (x : Text) → x ≡ field q s namer → part_text (in_field q 1 1 1) x ≡ named_in q s namer
   named-text x e = ap (part_text (in_field q 1 1 1)) e ∙ sym (leaf-split q s namer 1 1 1 (field-split s k numbered namer low))
 
-  pub lists-type : (r : Rows) (x : Text) → x ≡ field q s namer → (e : ℕ) → within 0 e x ≡ part_text (in_field q 1 1 1) x → Lists table r (leaves_named table (within 0 e x))
+  pub lists-type : (r : Span) (x : Text) → x ≡ field q s namer → (e : ℕ) → within 0 e x ≡ part_text (in_field q 1 1 1) x → Lists table r (leaves_named table (within 0 e x))
       → Lists table r (leaves_named table (named_in q s namer))
   lists-type r x f e g h = subst (λ (ls : List Leaf). Lists table r ls) (ap (leaves_named table) (g ∙ named-text x f)) h
 
 -- rows list what they list
-pub lists_itself : (table : List ℕ) (r : Rows) (ls : List Leaf) → Lists table r ls → Lists table r (leaves_at table r)
+pub lists_itself : (table : List ℕ) (r : Span) (ls : List Leaf) → Lists table r ls → Lists table r (leaves_at table r)
 lists_itself table r ls h = subst (λ (l : List Leaf). Lists table r l) (sym h.leaves) h

@@ -14,12 +14,12 @@ ghost use Rattle.checks.specs.View.{named_in};
 ghost use Rattle.listing.specs.Listing.{HasNumber};
 ghost use Rattle.located.specs.Listed.{leaves_of_field};
 
-use codes::{Rows, type_rows};
+use codes::type_rows;
 use cursor::{advance, first_piece};
 use frame::limits;
 use parts::near_end;
 use profile::{columns, numbers};
-use text::Marks;
+use text::{Marks, Span};
 
 // Where a segment's fields begin: the header's third after its ninth byte, any other's first after its name and one
 // separator.
@@ -72,7 +72,7 @@ fn first_leaf(x: &[u8], q: Marks) -> usize
 }
 
 // The rows of the type that the field with that number names.
-fn named_rows(s: &[u8], q: Marks, table: &[u16], k: u16, number: u64) -> Rows
+fn named_rows(s: &[u8], q: Marks, table: &[u16], k: u16, number: u64) -> Span
     requires sound { Sound table.now × HasNumber s.now k }
     requires no_lower { first_field k ≤ number }
     ensures { Lists table.now result (leaves_named table.now (named_in q s.now number)) }
@@ -83,14 +83,14 @@ fn named_rows(s: &[u8], q: Marks, table: &[u16], k: u16, number: u64) -> Rows
 }
 
 // The rows of the leaves that a field lists: its own, from `at` up to `end`, or those of the type that another one names.
-pub fn leaf_rows(s: &[u8], q: Marks, table: &[u16], k: u16, at: usize, end: usize) -> Rows
+pub fn leaf_rows(s: &[u8], q: Marks, table: &[u16], k: u16, at: usize, end: usize) -> Span
     requires sound { Sound table.now × HasNumber s.now k }
     requires field { IsField table.now k at end }
     ensures { Lists table.now result (leaves_of_field q table.now s.now at end) }
 {
     let named = table[at + columns::TYPE];
     if named < numbers::NAMED_BY {
-        return Rows { start: at, end };
+        return Span { start: at, end };
     }
     named_rows(s, q, table, k, (named - numbers::NAMED_BY) as u64)
 }

@@ -10,7 +10,7 @@ use lib.Dec.{eqb}
 use Rattle.text.specs.Bytes.{Text, pick, empty, within}
 use Rattle.text.proofs.Tests.{not-true}
 use Rattle.text.specs.declared.marks.Marks.{Marks}
-use Rattle.parts.specs.declared.Span.{Span}
+use Rattle.text.specs.declared.span.Span.{Span}
 use Rattle.parts.specs.declared.Numbers.{Numbers}
 use Rattle.parts.specs.Split.{front, split, piece, closed, Located, inside}
 use Rattle.parts.specs.Start.{before, start}

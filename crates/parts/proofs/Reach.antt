@@ -1,14 +1,15 @@
 -- From one separator to the next: laws for a reader that goes on from where it stands.
 use mathlib.Core.Path.{◌≡◌, refl, ap, ◌∙◌}
-use Prim.Native.Nat.{ℕ, suc, ◌+◌, ◌-◌, ◌≤◌, ◌<◌}
+use Prim.Native.Nat.{ℕ, zero, suc, ◌+◌, ◌-◌, ◌≤◌, ◌<◌}
 use native.Mathlib.Numerals.{add-one}
 use native.Mathlib.Omega.{arith}
-use mathlib.Core.Bool.{Bool, true, false, ◌||◌}
+use mathlib.Core.Bool.{Bool, true, false}
 use mathlib.Core.List.{List, [], ◌∷◌, drop_last}
 use lib.ListN.{length, get_or, take, drop, length-drop, drop_of_length-le}
 use lib.Seq.{drop-cons, drop-drop}
 use lib.Dec.{eqb}
-use borrow.Author.Tests.{eq-eqb, ne_eqb, eqb-false}
+use borrow.Author.Tests.{eq-eqb, ne_eqb}
+use Rattle.std.specs.List.{list_any}
 use Rattle.text.specs.Bytes.{Text, pick}
 use Rattle.text.proofs.Lists.{or-none}
 use Rattle.parts.specs.Split.{front, split, ended}
@@ -114,14 +115,23 @@ module _ (sep : ℕ) where
   unfolding reach
   reach-end t i h = rw (drop_of_length-le t h)
 
-  -- no separator among the bytes seen
-  pub none_seen : (t : Text) (from k : ℕ) (seen : Bool) → from + k < length t
-      → (seen ≡ false → reach sep (drop from t) ≡ k + reach sep (drop (from + k) t))
-      → seen || eqb (get_or t (from + k) 0) sep ≡ false → reach sep (drop from t) ≡ k + 1 + reach sep (drop (from + (k + 1)) t)
-  none_seen t from k seen h s e =
-      let o = or-none seen (eqb (get_or t (from + k) 0) sep) e in
-      let a : from + (k + 1) ≡ from + k + 1 = omega arith in
-      rw a (omega (arith, s o.0, reach-on t (from + k) h (eqb-false (get_or t (from + k) 0) sep o.1)))
+  -- no separator among so many bytes
+  none-first : (t : Text) (k : ℕ) → k ≤ length t → list_any (λ b. eqb b sep) (take k t) ≡ false → reach sep t ≡ k + reach sep (drop k t)
+  unfolding reach
+  none-first t zero h e = omega arith
+  none-first [] (suc k) h e = absurd (omega arith)
+  none-first (b ∷ t) (suc k) h e =
+      let o = or-none (eqb b sep) (list_any (λ x. eqb x sep) (take k t)) e in
+      rw o.0 (omega (arith, none-first t k (omega arith) o.1))
+
+  pub none-among : (t : Text) (i j : ℕ) → i ≤ j → j ≤ length t → list_any (λ b. eqb b sep) (take (j - i) (drop i t)) ≡ false
+      → i + reach sep (drop i t) ≡ j + reach sep (drop j t)
+  none-among t i j l h e =
+      let k : i + (j - i) ≡ j = omega arith in
+      let d : drop (j - i) (drop i t) ≡ drop j t = drop-drop (j - i) i t ∙ ap (λ (n : ℕ). drop n t) k in
+      let f : reach sep (drop i t) ≡ (j - i) + reach sep (drop j t) =
+      rw (← d) (none-first (drop i t) (j - i) (omega (arith, length-drop i t)) e) in
+      omega arith
 
   -- the same told by positions: a piece that begins at `from` ends at `to`
   module _ (t : Text) (from to : ℕ) (inside : from ≤ length t) (ends : to ≡ from + reach sep (drop from t)) where

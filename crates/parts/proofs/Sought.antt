@@ -5,7 +5,7 @@ use native.Mathlib.Omega.{arith}
 use mathlib.Core.List.{List, []}
 use lib.ListN.{length, get_or, drop}
 use Rattle.text.specs.Bytes.{Text}
-use Rattle.parts.specs.declared.Span.{Span}
+use Rattle.text.specs.declared.span.Span.{Span}
 use Rattle.parts.specs.Split.{split, piece}
 use Rattle.parts.specs.Start.{before, start, reach}
 use Rattle.parts.specs.Span.{span}
@@ -25,17 +25,14 @@ sought-first sep t (suc i) h =
 
 module _ (sep : ℕ) (t : Text) (p : Span) (from to : ℕ) (inside : from ≤ length t) (ends : to ≡ from + reach sep (drop from t)) where
   -- a piece further
-  on : (i : ℕ) → to < length t → Sought sep t p (suc i) from → Sought sep t p i (to + 1)
-  on i more h =
-      ap (λ (k : ℕ). span k (get_or (split sep (drop (to + 1) t)) i [])) (sym (before_on sep t from to inside ends more i))
+  pub sought-on : (left rest : ℕ) → left ≡ rest + 1 → to < length t → Sought sep t p left from → Sought sep t p rest (to + 1)
+  sought-on zero rest e more h = absurd (omega arith)
+  sought-on (suc i) rest e more h =
+      let n : rest ≡ i = omega arith in
+      rw n
+      (ap (λ (k : ℕ). span k (get_or (split sep (drop (to + 1) t)) i [])) (sym (before_on sep t from to inside ends more i))
       ∙ ap (λ (ps : List Text). span (from + before sep (drop from t) (suc i)) (get_or ps (suc i) [])) (sym (split-on sep t from to inside ends more))
-      ∙ h
-
-  pub sought-on : (left : ℕ) → 0 < left → to < length t → Sought sep t p left from → Sought sep t p (left - 1) (to + 1)
-  sought-on zero l more h = absurd (omega arith)
-  sought-on (suc i) l more h =
-      let e : suc i - 1 ≡ i = omega arith in
-      rw e (on i more h)
+      ∙ h)
 
   -- the piece begins here
   pub sought-here : (left : ℕ) → left ≤ 0 → Sought sep t p left from → record { start = from; end = to } ≡ p

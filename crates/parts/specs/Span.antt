@@ -6,7 +6,7 @@ use Rattle.text.specs.declared.marks.Marks.{Marks}
 use Rattle.parts.specs.Split.{split, piece}
 use Rattle.parts.specs.Start.{start}
 use Rattle.parts.specs.Descent.{Step, step}
-use Rattle.parts.specs.declared.Span.{Span}
+use Rattle.text.specs.declared.span.Span.{Span}
 use Rattle.parts.specs.declared.Numbers.{Numbers}
 
 -- a text that stands at a start: from there up to its end

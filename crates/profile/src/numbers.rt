@@ -1,4 +1,5 @@
 // What has a number in the machine's table: segments, types and usages. A list's number is its place in 01's order, from 1.
+// They stay numbers: they are the keys of the table's rows (`table[k]`), and a lent table may bring rows with names of its own, which no enum here could name.
 
 // The segments that 01 lists, by the numbers under which their rows stand; 0 is any other name.
 pub const UNLISTED: u16 = 0;

@@ -12,14 +12,10 @@ use Rattle.parts.specs.Split.{piece}
 use Rattle.frame.specs.Segments.{segments, of_name, fewer, occurrence}
 use Rattle.checks.proofs.Stands.{text-is}
 use Rattle.checks.specs.Place.{place, leaf_at, text_at}
-use Rattle.reader.specs.declared.standing.Standing.{Standing}
-use Rattle.reader.specs.declared.standing.Standing.TheVariants.{Missing, Segment}
+use Rattle.std.proofs.Common.{Option, None, Some}
+use Rattle.text.specs.declared.span.Span.{Span}
 use Rattle.reader.specs.Copied.{standing, Stood, segment_text}
 use Rattle.reader.proofs.Seek.{standing-missing, standing-inside, standing-text}
-
--- the segment that stands there lies in the message
-pub stood_inside : (m : Text) (s : Standing) (a e : ℕ) → s ≡ Segment a e → Stood m s → (a ≤ e) × (e ≤ length m)
-stood_inside m s a e g w = subst (Stood m) g w
 
 -- a segment that is missing
 piece-none : (l : List Text) (o : ℕ) → length l < o → piece o l ≡ []
@@ -31,15 +27,15 @@ missing-none m n o e = sym (piece-none (of_name n (segments m)) o (ltb-true (len
 
 module _ (m n : Text) (o : ℕ) where
   -- an occurrence that was sought lies in the message, or is missing
-  pub standing_stood : (s : Standing) → s ≡ standing m n o → Stood m s
-  standing_stood Missing h = tt
-  standing_stood (Segment a e) h = standing-inside m n o a e h
+  pub standing_stood : (s : Option Span) → s ≡ standing m n o → Stood m s
+  standing_stood None h = tt
+  standing_stood (Some s) h = standing-inside m n o s h
 
-  pub standing-bytes : (s : Standing) → s ≡ standing m n o → segment_text m s ≡ occurrence m n o
-  standing-bytes Missing h = missing-none m n o (standing-missing m n o h)
-  standing-bytes (Segment a e) h = standing-text m n o a e h
+  pub standing-bytes : (s : Option Span) → s ≡ standing m n o → segment_text m s ≡ occurrence m n o
+  standing-bytes None h = missing-none m n o (standing-missing m n o h)
+  standing-bytes (Some s) h = standing-text m n o s h
 
   -- THE TEXT that is copied from it is the text at the place
-  pub copied-text : (s : Standing) (f c : ℕ) → s ≡ standing m n o
+  pub copied-text : (s : Option Span) (f c : ℕ) → s ≡ standing m n o
       → leaf_at (marks_of m) (segment_text m s) f 1 c 1 ≡ text_at m (place n o f 1 c 1)
   copied-text s f c h = rw (standing-bytes s h) (sym (text-is m (place n o f 1 c 1)))

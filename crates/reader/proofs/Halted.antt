@@ -6,17 +6,17 @@ use mathlib.Core.List.{List, [], ◌∷◌}
 use lib.ListN.{get_or}
 use borrow.Author.Tests.{eq-eqb, ne_eqb}
 use Rattle.text.specs.Bytes.{Text, within}
-use Rattle.text.specs.Answer.{given}
 use Rattle.text.specs.declared.marks.Marks.{Marks}
 use Rattle.text.specs.Marks.{marks_of}
 use Rattle.frame.specs.Segments.{name}
 use Rattle.profile.specs.Numbers.{segment_number, table_of}
-use Rattle.reader.specs.declared.Verdict as code
+use Rattle.reader.specs.declared.Fault.{Fault}
+use Rattle.std.proofs.Common.{Some}
 use Rattle.segments.specs.declared.Finding.{Finding}
 use Rattle.walk.specs.declared.Halt.{Halt}
 use Rattle.checks.specs.Place.{place}
 use Rattle.checks.specs.Fault.{accepted, fault}
-use Rattle.reader.specs.Told.{verdict_of}
+use Rattle.reader.specs.Told.{verdict_told}
 use Rattle.segments.specs.Judged.{told_at, ReadsSegment}
 use Rattle.listing.specs.Listing.{name_at, count_before, HasNumber, Here}
 use Rattle.walk.specs.Judged.{number_at, field_broken, segment_reason, halt_verdict}
@@ -51,12 +51,12 @@ module _ (table : List ℕ) (m : Text) (h : Halt) where
   segment-verdict n a e r same = rw (same, e, ne_eqb h.why field_broken n)
 
   module _ (r : Finding) (is : IsVerdict r) where
-    pub halted_good : r.reason ≡ 0 → given accepted ≡ given (halt_verdict (table_of table) m h)
+    pub halted_good : r.reason ≡ 0 → accepted ≡ halt_verdict (table_of table) m h
     halted_good e = rw (← is, eq-eqb r.reason 0 e)
 
-    pub halted_fault : (r.reason ≡ 0 → ⊥) → Here m h.start h.end (number_at m h.start h.end) → (a : ℕ) (v : code.Verdict)
+    pub halted_fault : (r.reason ≡ 0 → ⊥) → Here m h.start h.end (number_at m h.start h.end) → (a : ℕ) (v : Fault)
         → a ≡ count_before m h.start (name_at m h.start) + 1
-        → verdict_of v ≡ given (fault (place (name_at m h.start) a r.field r.repetition r.component r.subcomponent) r.reason)
-        → verdict_of v ≡ given (halt_verdict (table_of table) m h)
+        → verdict_told (Some v) ≡ fault (place (name_at m h.start) a r.field r.repetition r.component r.subcomponent) r.reason
+        → verdict_told (Some v) ≡ halt_verdict (table_of table) m h
     halted_fault n here a v e f =
         f ∙ rw (e, named-there m h.start h.end (number_at m h.start h.end) here, add-one) (rw (← is, ne_eqb r.reason 0 n))

@@ -12,17 +12,16 @@ use Rattle.text.proofs.Answer.{first-refused, first-given, given-passes}
 use Rattle.frame.specs.Segments.{segments, name}
 use Rattle.frame.specs.Frame.{frame_tests, framed}
 use Rattle.frame.specs.Told.{framing_of}
-use Rattle.frame.specs.declared.checks.Framing.{Framing}
-use Rattle.frame.specs.declared.checks.Framing.TheVariants as framing
+use Rattle.std.proofs.Common.{Option, Result, Ok, Err}
 use Rattle.frame.proofs.Header.{header-opens}
 use Rattle.profile.specs.Table.{Table, is_listed, may_follow}
 use Rattle.profile.specs.Numbers.{AreTable, table_of, number_in, segment_number}
 use Rattle.profile.specs.Order.{Sound}
-use Rattle.reader.specs.declared.Verdict as code
+use Rattle.reader.specs.declared.Fault.{Fault}
 use Rattle.walk.specs.declared.Halt.{Halt}
 use Rattle.checks.specs.View.{listed_segments, view}
 use Rattle.checks.specs.Fault.{checks, verdict, judge}
-use Rattle.reader.specs.Told.{verdict_of}
+use Rattle.reader.specs.Told.{verdict_told}
 use Rattle.listing.specs.Listing.{Here, Next}
 use Rattle.walk.specs.Judged.{halt_verdict, Counts, Walks}
 use Rattle.codes.proofs.Rules.{are_same_table, listed-number}
@@ -77,17 +76,17 @@ module _ (t : List ℕ) (m : Text) (sound : Sound t) (good : framed m ≡ true) 
 
 -- ---- the frame's tests, then the verdict
 
-module _ (m : Text) (a : Framing) (told : framing_of a ≡ first (frame_tests m) (tt {0})) where
-  pub judged-frame : (T : Table) (r : Refusal) → a ≡ framing.Refused r → refused r ≡ judge T m
+module _ (m : Text) (a : Result Unit Refusal) (told : framing_of a ≡ first (frame_tests m) (tt {0})) where
+  pub judged-frame : (T : Table) (r : Refusal) → a ≡ Err r → refused r ≡ judge T m
   unfolding judge
   judged-frame T r e =
       first-refused (frame_tests m) [] (verdict T m) r (ap framing_of (sym e) ∙ told)
       ∙ ap (λ (ts : List Test). first ts (verdict T m)) (append-nil (frame_tests m))
 
-  pub judged-framed : a ≡ framing.Framed → framed m ≡ true
-  judged-framed e = given-passes (frame_tests m) tt tt (sym (ap framing_of (sym e) ∙ told))
+  pub judged-framed : (u : Unit) → a ≡ Ok u → framed m ≡ true
+  judged-framed u e = given-passes (frame_tests m) tt tt (sym (ap framing_of (sym e) ∙ told))
 
-  pub judged-on : (t : List ℕ) (T : Table) (v : code.Verdict) → AreTable t T → a ≡ framing.Framed → verdict_of v ≡ given (verdict (table_of t) m) → verdict_of v ≡ judge T m
+  pub judged-on : (t : List ℕ) (T : Table) (v : Option Fault) (u : Unit) → AreTable t T → a ≡ Ok u → verdict_told v ≡ verdict (table_of t) m → given (verdict_told v) ≡ judge T m
   unfolding judge
-  judged-on t T v tells e w =
-      w ∙ ap (λ (U : Table). given (verdict U m)) (are_same_table t T tells) ∙ sym (first-given (frame_tests m) (verdict T m) (judged-framed e))
+  judged-on t T v u tells e w =
+      ap given w ∙ ap (λ (U : Table). given (verdict U m)) (are_same_table t T tells) ∙ sym (first-given (frame_tests m) (verdict T m) (judged-framed u e))

@@ -9,7 +9,10 @@ use Rattle.text.specs.Bytes.{Text, within}
 use Rattle.text.specs.Answer.{given}
 use Rattle.text.proofs.Answer.{first-asked}
 use Rattle.reader.specs.declared.Place as code
-use Rattle.reader.specs.declared.Found as code-found
+use Rattle.seek.specs.declared.Found as code-found
+use Rattle.std.proofs.Common.{Result, Ok, Err}
+use Rattle.text.specs.declared.refusal.Refusal.{Refusal}
+use Rattle.text.specs.declared.span.Span.{Span}
 use Rattle.reader.specs.declared.search.LookedUp.{LookedUp}
 use Rattle.checks.specs.Place.{Place, text_at}
 use Rattle.checks.specs.Starts.{start_at}
@@ -29,14 +32,14 @@ found-text m p a e h =
     rw (l, w.0) (text-stands m p)
 
 -- of a text, the part's bytes are THE TEXT AT THE PLACE; of anything else there are none
-part_bytes : (m : Bor Text) (p : code.Place) (r : LookedUp) (f : code-found.Found) → LooksUp m p r → r.sort ≡ f → r.text.now ≡ within (start_of f) (end_of f) m.now
-part_bytes m p r f l e = l.text.bytes ∙ ap (λ (x : code-found.Found). within (start_of x) (end_of x) m.now) e
+part_bytes : (m : Bor Text) (p : code.Place) (r : LookedUp) (f : Result code-found.Found Refusal) → LooksUp m p r → r.sort ≡ f → r.text.now ≡ within (start_of f) (end_of f) m.now
+part_bytes m p r f l e = l.text.bytes ∙ ap (λ (x : Result code-found.Found Refusal). within (start_of x) (end_of x) m.now) e
 
-pub looked_up_text : (m : Bor Text) (p : code.Place) (r : LookedUp) (a e : ℕ) → LooksUp m p r → r.sort ≡ code-found.TheVariants.Text a e
+pub looked_up_text : (m : Bor Text) (p : code.Place) (r : LookedUp) (s : Span) → LooksUp m p r → r.sort ≡ Ok (code-found.TheVariants.Text s)
     → r.text.now ≡ text_at m.now (place_of p)
-looked_up_text m p r a e l s =
-    part_bytes m p r (code-found.TheVariants.Text a e) l s
-    ∙ found-text m.now (place_of p) a e (ap found_of (sym s) ∙ l.sort)
+looked_up_text m p r t l s =
+    part_bytes m p r (Ok (code-found.TheVariants.Text t)) l s
+    ∙ found-text m.now (place_of p) t.start t.end (ap found_of (sym s) ∙ l.sort)
 
-pub looked_up_empty : (m : Bor Text) (p : code.Place) (r : LookedUp) → LooksUp m p r → r.sort ≡ code-found.TheVariants.Empty → r.text.now ≡ []
-looked_up_empty m p r l s = part_bytes m p r code-found.TheVariants.Empty l s
+pub looked_up_empty : (m : Bor Text) (p : code.Place) (r : LookedUp) → LooksUp m p r → r.sort ≡ Ok code-found.TheVariants.Empty → r.text.now ≡ []
+looked_up_empty m p r l s = part_bytes m p r (Ok code-found.TheVariants.Empty) l s

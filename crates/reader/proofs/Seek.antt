@@ -12,20 +12,21 @@ use Rattle.parts.specs.Start.{before, reach}
 use Rattle.parts.proofs.Split.{before-first, before_le, stands_le}
 use Rattle.parts.proofs.Descent.{within-length}
 use Rattle.parts.proofs.Reach.{ended-on, before_on, ended-end}
-use Rattle.reader.specs.declared.standing.Standing.{Standing}
-use Rattle.reader.specs.declared.standing.Standing.TheVariants.{Missing, Segment}
+use Rattle.std.proofs.Common.{Option, None, Some}
+use Rattle.text.specs.declared.span.Span.{Span}
+use Rattle.parts.specs.Span.{span}
+use Rattle.seek.specs.Inner.{LiesIn, segment}
 use Rattle.frame.specs.Segments.{segments, named, of_name, occurrence, fewer}
 use Rattle.frame.specs.Starts.{ahead, occurrence_start}
 use Rattle.reader.specs.Copied.{standing}
 use Rattle.frame.proofs.Segments.{occurrence-stands}
 
 -- the segment of a name that has i of that name before it, among those from a place on
-abbrev from-here : Text → Text → ℕ → List Text → ℕ → Standing
+abbrev from-here : Text → Text → ℕ → List Text → ℕ → Option Span
 from-here m n start ss i =
-    let k = start + before cr (drop start m) (ahead n ss i) in
-    pick (ltb (length (of_name n ss)) (suc i)) Missing (Segment k (k + length (get_or (of_name n ss) i [])))
+    pick (ltb (length (of_name n ss)) (suc i)) None (Some (span (start + before cr (drop start m) (ahead n ss i)) (get_or (of_name n ss) i [])))
 
-abbrev pub Sought : Text → Text → Standing → ℕ → ℕ → Type 0
+abbrev pub Sought : Text → Text → Option Span → ℕ → ℕ → Type 0
 Sought m n p left start = from-here m n start (segments (drop start m)) (left - 1) ≡ p
 
 pub sought-first : (m n : Text) (o : ℕ) → 1 ≤ o → Sought m n (standing m n o) o 0
@@ -41,7 +42,7 @@ unfolding ahead
 passed n s ss zero e = rw e
 passed n s ss (suc i) e = rw e
 
-module _ (m n : Text) (p : Standing) (start end : ℕ) (inside : start ≤ length m) (ends : end ≡ start + reach cr (drop start m)) where
+module _ (m n : Text) (p : Option Span) (start end : ℕ) (inside : start ≤ length m) (ends : end ≡ start + reach cr (drop start m)) where
   module _ (more : end < length m) where
     abbrev s : Text
     s = within start end m
@@ -63,7 +64,7 @@ module _ (m n : Text) (p : Standing) (start end : ℕ) (inside : start ≤ lengt
     unfolding keep ahead
     another i e = rw (e, leb-suc-suc (suc (length (of_name n ss))) (suc i), behind (ahead n ss i))
 
-    this : named n s ≡ true → from-here m n start (s ∷ ss) 0 ≡ Segment start end
+    this : named n s ≡ true → from-here m n start (s ∷ ss) 0 ≡ Some (record { start = start; end = end })
     unfolding keep ahead
     this e =
         let z : start + before cr (drop start m) 0 ≡ start = omega (arith, before-first cr (drop start m)) in
@@ -77,7 +78,7 @@ module _ (m n : Text) (p : Standing) (start end : ℕ) (inside : start ≤ lengt
       pub sought-other : r ≡ false → Sought m n p left (end + 1)
       sought-other e = sym (other (left - 1) (sym read ∙ e)) ∙ told
 
-      pub sought-this : r ≡ true → left ≤ 1 → Segment start end ≡ p
+      pub sought-this : r ≡ true → left ≤ 1 → Some (record { start = start; end = end }) ≡ p
       sought-this e l =
           let z : left - 1 ≡ 0 = omega arith in
           sym (this (sym read ∙ e)) ∙ ap (from-here m n start (s ∷ ss)) (sym z) ∙ told
@@ -91,48 +92,51 @@ module _ (m n : Text) (p : Standing) (start end : ℕ) (inside : start ≤ lengt
     last : segments (drop start m) ≡ []
     last = ended-end cr m start end inside ends none
 
-    pub sought-none : (left : ℕ) → Sought m n p left start → Missing ≡ p
+    pub sought-none : (left : ℕ) → Sought m n p left start → None ≡ p
     unfolding keep
     sought-none left h =
         let t : ltb 0 (suc (left - 1)) ≡ true = lt-ltb 0 (suc (left - 1)) (omega arith) in
         sym (rw (last, t)) ∙ h
 
 -- what an answer says of the occurrence
-segment-step : (b : Bool) (k l a e : ℕ) → Segment a e ≡ pick b Missing (Segment k l) → (b ≡ false) × ((k ≡ a) × (l ≡ e))
-segment-step true k l a e h = absurd (let z : ◌≡◌ {A = ℕ} 0 1 = cc in omega arith)
-segment-step false k l a e h = (refl, (cc, cc))
+some-step : (b : Bool) (t s : Span) → Some s ≡ pick b None (Some t) → (b ≡ false) × (s ≡ t)
+some-step true t s h = absurd (cc)
+some-step false t s h = (refl, cc)
 
-missing-step : (b : Bool) (k l : ℕ) → Missing ≡ pick b Missing (Segment k l) → b ≡ true
-missing-step true k l h = refl
-missing-step false k l h = absurd (let z : ◌≡◌ {A = ℕ} 0 1 = cc in omega arith)
+none-step : (b : Bool) (t : Span) → None ≡ pick b None (Some t) → b ≡ true
+none-step true t h = refl
+none-step false t h = absurd (cc)
 
-pub standing-missing : (m n : Text) (o : ℕ) → Missing ≡ standing m n o → fewer m n o ≡ true
-standing-missing m n o h =
-    missing-step (fewer m n o) (occurrence_start m n o) (occurrence_start m n o + length (occurrence m n o)) h
+pub standing-missing : (m n : Text) (o : ℕ) → None ≡ standing m n o → fewer m n o ≡ true
+standing-missing m n o h = none-step (fewer m n o) (span (occurrence_start m n o) (occurrence m n o)) h
 
 start-inside : (m n : Text) (o : ℕ) → occurrence_start m n o ≤ length m
 start-inside m n zero = omega arith
 start-inside m n (suc i) = before_le cr m (ahead n (segments m) i)
 
-module _ (m n : Text) (o a e : ℕ) (h : Segment a e ≡ standing m n o) where
-  told-parts : (fewer m n o ≡ false) × ((occurrence_start m n o ≡ a) × (occurrence_start m n o + length (occurrence m n o) ≡ e))
-  told-parts = segment-step (fewer m n o) (occurrence_start m n o) (occurrence_start m n o + length (occurrence m n o)) a e h
+module _ (m n : Text) (o : ℕ) (s : Span) (h : Some s ≡ standing m n o) where
+  told-parts : (fewer m n o ≡ false) × (s ≡ span (occurrence_start m n o) (occurrence m n o))
+  told-parts = some-step (fewer m n o) (span (occurrence_start m n o) (occurrence m n o)) s h
+
+  starts : s.start ≡ occurrence_start m n o
+  starts = ap (λ (s : Span). s.start) told-parts.1
+
+  ends : s.end ≡ occurrence_start m n o + length (occurrence m n o)
+  ends = ap (λ (s : Span). s.end) told-parts.1
 
   pub standing_enough : fewer m n o ≡ false
   standing_enough = told-parts.0
 
-  pub standing-start : occurrence_start m n o ≡ a
-  standing-start = told-parts.1.0
+  pub standing-start : occurrence_start m n o ≡ s.start
+  standing-start = sym starts
 
-  pub standing-inside : (a ≤ e) × (e ≤ length m)
-  standing-inside =
-      let s = occurrence m n o in (
-        omega (arith, told-parts.1.0, told-parts.1.1),
-        omega (arith, told-parts.1.1, stands_le m (occurrence_start m n o) s (start-inside m n o) (occurrence-stands m n o)),
-      )
+  pub standing-inside : LiesIn s m
+  standing-inside = (
+    omega (arith, starts, ends),
+    omega (arith, ends, stands_le m (occurrence_start m n o) (occurrence m n o) (start-inside m n o) (occurrence-stands m n o)),
+  )
 
-  pub standing-text : within a e m ≡ occurrence m n o
+  pub standing-text : segment s m ≡ occurrence m n o
   standing-text =
-      let s = occurrence m n o in
-      let l : e - a ≡ length s = omega (arith, told-parts.1.0, told-parts.1.1) in
-      rw (l, ← standing-start) (occurrence-stands m n o)
+      let l : s.end - s.start ≡ length (occurrence m n o) = omega (arith, starts, ends) in
+      rw (l, starts) (occurrence-stands m n o)

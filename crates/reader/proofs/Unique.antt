@@ -1,17 +1,16 @@
 -- What a call promises leaves one answer.
-use Prim.Native.Nat.{ℕ}
-use native.Mathlib.Omega.{arith}
-use mathlib.Core.Path.{◌≡◌, sym, ◌∙◌}
+use mathlib.Core.Path.{◌≡◌, refl, sym, ◌∙◌}
 use lib.ListN.{get_or}
 use denote.Ref.{Bor}
 use Rattle.text.specs.Bytes.{Text}
 use Rattle.text.proofs.SamePart.{part_same}
 use Rattle.profile.specs.Table.{Table}
 use Rattle.reader.specs.declared.Place.{Place}
-use Rattle.reader.specs.declared.Found.{Found}
-use Rattle.reader.specs.declared.Found.TheVariants as found
-use Rattle.reader.specs.declared.Verdict.{Verdict}
-use Rattle.reader.specs.declared.Verdict.TheVariants as verdict
+use Rattle.std.proofs.Common.{Option, None, Some, Result, Ok, Err}
+use Rattle.text.specs.declared.refusal.Refusal.{Refusal}
+use Rattle.seek.specs.declared.Found.{Found}
+use Rattle.seek.specs.declared.Found.TheVariants as found
+use Rattle.reader.specs.declared.Fault.{Fault}
 use Rattle.reader.specs.declared.search.LookedUp.{LookedUp}
 use Rattle.checks.specs.LookUp.{look_up}
 use Rattle.reader.specs.Told.{place_of, found_of, verdict_of}
@@ -19,18 +18,21 @@ use Rattle.reader.specs.Part.{SamePart, start_of, end_of}
 use Rattle.reader.specs.Promise.{LooksUp, Judges}
 
 -- an answer is what is told of it
-pub found-same : (f g : Found) → found_of f ≡ found_of g → f ≡ g
-found-same (found.Refused a) (found.Refused b) e = cc
-found-same (found.Refused a) found.Empty e = absurd (let z : ◌≡◌ {A = ℕ} 0 1 = cc in omega arith)
-found-same (found.Refused a) (found.Text k l) e = absurd (let z : ◌≡◌ {A = ℕ} 0 1 = cc in omega arith)
-found-same found.Empty (found.Refused b) e = absurd (let z : ◌≡◌ {A = ℕ} 0 1 = cc in omega arith)
-found-same found.Empty found.Empty e = cc
-found-same found.Empty (found.Text k l) e = absurd (let z : ◌≡◌ {A = ℕ} 0 1 = cc in omega arith)
-found-same (found.Text i j) (found.Refused b) e = absurd (let z : ◌≡◌ {A = ℕ} 0 1 = cc in omega arith)
-found-same (found.Text i j) found.Empty e = absurd (let z : ◌≡◌ {A = ℕ} 0 1 = cc in omega arith)
-found-same (found.Text i j) (found.Text k l) e = cc
+pub found-same : (f g : Result Found Refusal) → found_of f ≡ found_of g → f ≡ g
+found-same (Err a) (Err b) e = cc
+found-same (Err a) (Ok found.Empty) e = cc
+found-same (Err a) (Ok (found.Text k)) e = cc
+found-same (Ok found.Empty) (Err b) e = cc
+found-same (Ok found.Empty) (Ok found.Empty) e = refl
+found-same (Ok found.Empty) (Ok (found.Text k)) e = cc
+found-same (Ok (found.Text j)) (Err b) e = cc
+found-same (Ok (found.Text j)) (Ok found.Empty) e = cc
+found-same (Ok (found.Text j)) (Ok (found.Text k)) e =
+    let s : j.start ≡ k.start = cc in
+    let t : j.end ≡ k.end = cc in
+    λ i. Ok (found.Text (record { start = s i; end = t i }))
 
-pub find_unique : (m : Text) (p : Place) (f g : Found) → found_of f ≡ look_up m (place_of p) → found_of g ≡ look_up m (place_of p) → f ≡ g
+pub find_unique : (m : Text) (p : Place) (f g : Result Found Refusal) → found_of f ≡ look_up m (place_of p) → found_of g ≡ look_up m (place_of p) → f ≡ g
 find_unique m p f g a b = found-same f g (a ∙ sym b)
 
 pub look_up_unique : (m : Bor Text) (p : Place) (r s : LookedUp) → LooksUp m p r → LooksUp m p s
@@ -53,19 +55,19 @@ place_same p r e =
       subcomponent = (e i).subcomponent;
     }
 
-pub verdict-same : (v w : Verdict) → verdict_of v ≡ verdict_of w → v ≡ w
-verdict-same (verdict.Refused a) (verdict.Refused b) e = cc
-verdict-same (verdict.Refused a) verdict.Accepted e = absurd (let z : ◌≡◌ {A = ℕ} 0 1 = cc in omega arith)
-verdict-same (verdict.Refused a) (verdict.Fault g) e = absurd (let z : ◌≡◌ {A = ℕ} 0 1 = cc in omega arith)
-verdict-same verdict.Accepted (verdict.Refused b) e = absurd (let z : ◌≡◌ {A = ℕ} 0 1 = cc in omega arith)
-verdict-same verdict.Accepted verdict.Accepted e = cc
-verdict-same verdict.Accepted (verdict.Fault g) e = absurd (let z : ◌≡◌ {A = ℕ} 0 1 = cc in omega arith)
-verdict-same (verdict.Fault f) (verdict.Refused b) e = absurd (let z : ◌≡◌ {A = ℕ} 0 1 = cc in omega arith)
-verdict-same (verdict.Fault f) verdict.Accepted e = absurd (let z : ◌≡◌ {A = ℕ} 0 1 = cc in omega arith)
-verdict-same (verdict.Fault f) (verdict.Fault g) e =
+pub verdict-same : (v w : Result (Option Fault) Refusal) → verdict_of v ≡ verdict_of w → v ≡ w
+verdict-same (Err a) (Err b) e = cc
+verdict-same (Err a) (Ok None) e = cc
+verdict-same (Err a) (Ok (Some g)) e = cc
+verdict-same (Ok None) (Err b) e = cc
+verdict-same (Ok None) (Ok None) e = refl
+verdict-same (Ok None) (Ok (Some g)) e = cc
+verdict-same (Ok (Some f)) (Err b) e = cc
+verdict-same (Ok (Some f)) (Ok None) e = cc
+verdict-same (Ok (Some f)) (Ok (Some g)) e =
     let p : place_of f.place ≡ place_of g.place = cc in
     let n : f.reason ≡ g.reason = cc in
-    λ i. verdict.Fault (record { place = place_same f.place g.place p i; reason = n i })
+    λ i. Ok (Some (record { place = place_same f.place g.place p i; reason = n i }))
 
-pub judge_unique : (T : Table) (m : Text) (v w : Verdict) → Judges T m v → Judges T m w → v ≡ w
+pub judge_unique : (T : Table) (m : Text) (v w : Result (Option Fault) Refusal) → Judges T m v → Judges T m w → v ≡ w
 judge_unique T m v w a b = verdict-same v w (a ∙ sym b)

@@ -1,12 +1,14 @@
 -- An entry's promise is made of this.
 -- What each case of an answer tells: 01's number and values.
-use Rattle.std.specs.Prelude.{[], ◌∷◌}
-use Rattle.text.specs.Answer.{Answer, refused, given}
+use Rattle.std.specs.Prelude.{[], ◌∷◌, Option, None, Some, Result}
+use Rattle.text.specs.Answer.{Answer, answer_of}
+use Rattle.text.specs.declared.refusal.Refusal.{Refusal}
+use Rattle.seek.specs.declared.Found as code-found
+use Rattle.seek.specs.Told.{found_told}
 use Rattle.reader.specs.declared.Place as code-place
-use Rattle.reader.specs.declared.Found as code-found
-use Rattle.reader.specs.declared.Verdict as code-verdict
+use Rattle.reader.specs.declared.Fault as code-fault
 use Rattle.checks.specs.Place.{Place, place}
-use Rattle.checks.specs.LookUp.{Found, Empty, text_from_to}
+use Rattle.checks.specs.LookUp.{Found}
 use Rattle.checks.specs.Fault.{Verdict, accepted, fault}
 
 -- the code holds a name as its three bytes
@@ -15,12 +17,14 @@ place_of p =
     place (p.first ∷ p.second ∷ p.third ∷ [])
     p.occurrence p.field p.repetition p.component p.subcomponent
 
-abbrev pub found_of : code-found.Found → Answer Found
-found_of (code-found.TheVariants.Refused r) = refused r
-found_of code-found.TheVariants.Empty = given Empty
-found_of (code-found.TheVariants.Text a e) = given (text_from_to a e)
+-- Empty, or a text from its start to its end (`found_told`, seek/specs/Told.antt)
+abbrev pub found_of : Result code-found.Found Refusal → Answer Found
+found_of r = answer_of found_told r
 
-abbrev pub verdict_of : code-verdict.Verdict → Answer Verdict
-verdict_of (code-verdict.TheVariants.Refused r) = refused r
-verdict_of code-verdict.TheVariants.Accepted = given accepted
-verdict_of (code-verdict.TheVariants.Fault f) = given (fault (place_of f.place) f.reason)
+-- no fault: accepted
+abbrev pub verdict_told : Option code-fault.Fault → Verdict
+verdict_told None = accepted
+verdict_told (Some f) = fault (place_of f.place) f.reason
+
+abbrev pub verdict_of : Result (Option code-fault.Fault) Refusal → Answer Verdict
+verdict_of r = answer_of verdict_told r

@@ -4,17 +4,11 @@ ghost use Rattle.reader.specs.Copied.{standing};
 
 use frame::has_name;
 use parts::far_end;
+use text::Span;
 
-// Where an occurrence of a name stands, its CR not counted.
-#[derive(Clone, Copy)]
-pub enum Standing {
-    Missing,
-    Segment { start: usize, end: usize },
-}
-
-// Occurrence `number` of a name, from 1: one walk, from segment to segment.
+// Where occurrence `number` of a name stands, from 1, its CR not counted: one walk, from segment to segment.
 // Inner: the callers hold that the number is at least 1.
-pub fn occurrence(m: &[u8], a: u8, b: u8, c: u8, number: u64) -> Standing
+pub fn occurrence(m: &[u8], a: u8, b: u8, c: u8, number: u64) -> Option<Span>
     requires { 1 ≤ number }
     ensures { result ≡ standing m.now (a ∷ b ∷ c ∷ []) number }
 {
@@ -24,12 +18,12 @@ pub fn occurrence(m: &[u8], a: u8, b: u8, c: u8, number: u64) -> Standing
     while end < m.len() {
         if has_name(&m[start..end], a, b, c) {
             if left <= 1 {
-                return Standing::Segment { start, end };
+                return Some(Span { start, end });
             }
             left -= 1;
         }
         start = end + 1;
         end = far_end(m, start, b'\r');
     }
-    Standing::Missing
+    None
 }

@@ -7,25 +7,24 @@ ghost use Rattle.checks.specs.Place.{leaf_at};
 ghost use Rattle.cutting.specs.FromField.{FieldsFrom};
 ghost use Rattle.reader.specs.Copied.{Stood, segment_text};
 
-use crate::standing::Standing;
 use codes::is_one_of;
 use cutting::{fields_from, leaf_text};
 use profile::processing_ids;
-use text::marks_of;
+use text::{Span, marks_of};
 
 // The segment's bytes: none where it is missing.
-fn segment_text<'a>(m: &'a [u8], s: Standing) -> &'a [u8]
+fn segment_text<'a>(m: &'a [u8], s: Option<Span>) -> &'a [u8]
     requires { Stood m.now s }
     ensures { result.now ≡ segment_text m.now s }
 {
     match s {
-        Standing::Missing => &m[0..0],
-        Standing::Segment { start, end } => &m[start..end],
+        None => &m[0..0],
+        Some(s) => &m[s.start..s.end],
     }
 }
 
 // What stands of a segment from a field on. The field is the third or a later one, since MSH-1 and MSH-2 are unsplit.
-pub fn fields_in<'a>(m: &'a [u8], s: Standing, field: u64) -> &'a [u8]
+pub fn fields_in<'a>(m: &'a [u8], s: Option<Span>, field: u64) -> &'a [u8]
     requires { Stood m.now s × (3 ≤ field) }
     ensures { FieldsFrom (marks_of m.now) (segment_text m.now s) field result.now }
 {
@@ -33,7 +32,7 @@ pub fn fields_in<'a>(m: &'a [u8], s: Standing, field: u64) -> &'a [u8]
 }
 
 // The first leaf of a component, in the first repetition of a field: no bytes where it is Empty or the segment is missing.
-pub fn text_in<'a>(m: &'a [u8], s: Standing, field: u64, component: u64) -> &'a [u8]
+pub fn text_in<'a>(m: &'a [u8], s: Option<Span>, field: u64, component: u64) -> &'a [u8]
     requires { Stood m.now s × (1 ≤ field) }
     ensures { result.now ≡ leaf_at (marks_of m.now) (segment_text m.now s) field 1 component 1 }
 {

@@ -12,7 +12,7 @@ use borrow.Author.Tests as tests
 use borrow.Author.Tests.{lt-leb, le-leb}
 use Rattle.text.specs.Bytes.{Text, pick, within}
 use Rattle.text.specs.declared.marks.Marks.{Marks}
-use Rattle.parts.specs.declared.Span.{Span}
+use Rattle.text.specs.declared.span.Span.{Span}
 use Rattle.parts.specs.declared.Numbers.{Numbers}
 use Rattle.parts.specs.Split.{split, piece}
 use Rattle.parts.specs.Start.{start}
@@ -44,6 +44,16 @@ module _ (p : Span) (k : ℕ) (t : Text) (is : p ≡ span k t) where
   pub between_none : p.end ≤ p.start → Empty ≡ shown k t
   between_none l =
       shown-none k t (omega (arith, ap (λ (s : Span). s.start) is, ap (λ (s : Span). s.end) is))
+
+-- bytes a up to b of a segment of so many bytes: they begin there, unless there are none
+pub shown-clipped : (k a b l : ℕ) (t : Text) → a < b → length t ≡ min b l - a → shown (k + min a l) t ≡ shown (k + a) t
+shown-clipped k a b l [] h e = refl
+shown-clipped k a b l (x ∷ t) h e =
+    let i : min a l ≡ a = omega arith in
+    rw i
+
+pub clipped : (k a b l : ℕ) (t : Text) → a < b → length t ≡ min b l - a → k + min b l ≡ k + min a l + length t
+clipped k a b l t h e = omega arith
 
 -- the fields after some bytes of a segment
 drop-take : (k n : ℕ) (l : Text) → drop k (take n l) ≡ take (n - k) (drop k l)

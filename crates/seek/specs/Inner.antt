@@ -1,20 +1,22 @@
 -- Inner: no entry's promise is made of this.
 -- What only inner functions promise: where the leaf of a segment lies.
-use Rattle.std.specs.Prelude.{ℕ, ◌+◌, drop}
-use Rattle.text.specs.Bytes.{Text}
+use Rattle.std.specs.Prelude.{ℕ, ◌+◌, ◌≤◌, length, drop}
+use Rattle.text.specs.Bytes.{Text, within}
+use Rattle.text.specs.declared.span.Span.{Span}
 use Rattle.text.specs.declared.marks.Marks.{Marks}
 use Rattle.parts.specs.declared.Numbers.{Numbers}
 use Rattle.parts.specs.Span.{part_text, part_start}
 use Rattle.parts.specs.Span.{steps_from}
 use Rattle.checks.specs.Place.{leaf_at}
 use Rattle.checks.specs.Starts.{leaf_start}
-use Rattle.checks.specs.Shown.{Found, Empty, text_from_to, shown}
-use Rattle.seek.specs.declared.Seen as code
+use Rattle.checks.specs.Shown.{Found, shown}
 
--- what each case tells
-abbrev pub leaf_told : code.Seen → Found
-leaf_told code.TheVariants.Empty = Empty
-leaf_told (code.TheVariants.Text a e) = text_from_to a e
+-- a span lies in the message, and its bytes
+abbrev pub LiesIn : Span → Text → Type 0
+LiesIn s m = (s.start ≤ s.end) × (s.end ≤ length m)
+
+abbrev pub segment : Span → Text → Text
+segment s m = within s.start s.end m
 
 -- the leaf of a segment that starts at k
 abbrev pub leaf_found : Marks → Numbers → ℕ → Text → Found

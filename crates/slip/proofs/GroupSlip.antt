@@ -8,8 +8,8 @@ use Rattle.text.specs.Bytes.{Text, bytes}
 use Rattle.text.specs.Marks.{marks_of}
 use Rattle.text.specs.declared.marks.Marks.{Marks}
 use Rattle.escape.specs.Length.{Fits}
-use Rattle.reader.specs.declared.standing.Standing.{Standing}
-use Rattle.reader.specs.declared.standing.Standing.TheVariants.{Segment}
+use Rattle.std.proofs.Common.{Option, Some}
+use Rattle.text.specs.declared.span.Span.{Span}
 use Rattle.frame.specs.Frame.{framed}
 use Rattle.frame.specs.Segments.{segments}
 use Rattle.reader.specs.Copied.{standing}
@@ -22,6 +22,7 @@ use Rattle.reader.proofs.Copied.{copied-text}
 use Rattle.slot.specs.Fields.{longest_control, longest_text}
 use Rattle.slot.specs.Slot.{slot_size, slip_of}
 use Rattle.slot.specs.Inner.{Fillable, values_of}
+use Rattle.slot.specs.declared.Values.{Values}
 use Rattle.reader.specs.Observations.{observations, observations_of}
 use Rattle.slip.specs.Slip.{slip_text}
 use Rattle.slip.specs.Inner.{IsOrder}
@@ -34,51 +35,50 @@ taken-fits : (q q' : Marks) (t t' : Text) (most : ℕ) → q ≡ q' → t ≡ t'
 taken-fits q q' t t' most e k l f = rw (e, k) (record { good = f.fits.good; short = omega (arith, f.fits.short) })
 
 -- what is read for a slip
-pub record IsRead (m : Text) (a e : ℕ) (header patient : Standing) (q : Marks) (control identity placer filler service : Text) : Type 0 where
+pub record IsRead (m : Text) (order : Span) (header patient : Option Span) (q : Marks) (v : Values) : Type 0 where
   pub marks : q ≡ marks_of m
   pub header-stands : header ≡ standing m (bytes "MSH") 1
   pub patient-stands : patient ≡ standing m (bytes "PID") 1
-  pub control-text : control ≡ leaf_at (marks_of m) (segment_text m header) 10 1 1 1
-  pub identity_text : identity ≡ leaf_at (marks_of m) (segment_text m patient) 3 1 1 1
-  pub placer-text : placer ≡ leaf_at (marks_of m) (segment_text m (Segment a e)) 2 1 1 1
-  pub filler-text : filler ≡ leaf_at (marks_of m) (segment_text m (Segment a e)) 3 1 1 1
-  pub service-text : service ≡ leaf_at (marks_of m) (segment_text m (Segment a e)) 4 1 1 1
+  pub control-text : v.control.now ≡ leaf_at (marks_of m) (segment_text m header) 10 1 1 1
+  pub patient-text : v.patient.now ≡ leaf_at (marks_of m) (segment_text m patient) 3 1 1 1
+  pub placer-text : v.placer.now ≡ leaf_at (marks_of m) (segment_text m (Some order)) 2 1 1 1
+  pub filler-text : v.filler.now ≡ leaf_at (marks_of m) (segment_text m (Some order)) 3 1 1 1
+  pub service-text : v.service.now ≡ leaf_at (marks_of m) (segment_text m (Some order)) 4 1 1 1
+  pub counted : v.count ≡ observations (segments (drop (order.end + 1) m))
 
-module _ {m : Text} {a e : ℕ} {header patient : Standing} {q : Marks} {control identity placer filler service : Text}
-    (r : IsRead m a e header patient q control identity placer filler service) (g : ℕ) (o : IsOrder m g a e) where
-  control-read : control ≡ text_at m (place (bytes "MSH") 1 10 1 1 1)
+module _ {m : Text} {order : Span} {header patient : Option Span} {q : Marks} {v : Values}
+    (r : IsRead m order header patient q v) (g : ℕ) (o : IsOrder m g order) where
+  control-read : v.control.now ≡ text_at m (place (bytes "MSH") 1 10 1 1 1)
   control-read = r.control-text ∙ copied-text m (bytes "MSH") 1 header 10 1 r.header-stands
 
-  identity_read : identity ≡ text_at m (place (bytes "PID") 1 3 1 1 1)
-  identity_read = r.identity_text ∙ copied-text m (bytes "PID") 1 patient 3 1 r.patient-stands
+  patient-read : v.patient.now ≡ text_at m (place (bytes "PID") 1 3 1 1 1)
+  patient-read = r.patient-text ∙ copied-text m (bytes "PID") 1 patient 3 1 r.patient-stands
 
-  order-read : (f : ℕ) → leaf_at (marks_of m) (segment_text m (Segment a e)) f 1 1 1 ≡ text_at m (place (bytes "OBR") g f 1 1 1)
-  order-read f = copied-text m (bytes "OBR") g (Segment a e) f 1 o.1
+  order-read : (f : ℕ) → leaf_at (marks_of m) (segment_text m (Some order)) f 1 1 1 ≡ text_at m (place (bytes "OBR") g f 1 1 1)
+  order-read f = copied-text m (bytes "OBR") g (Some order) f 1 o.1
 
-  pub group_fits : framed m ≡ true → verdict profile01 m ≡ accepted → (slip : Text) → slip ≡ replicate slot_size 0
-      → Fillable q slip control identity placer filler service
-  group_fits f v slip z =
-      let fit = accepted-fitting m g f v o.0 (standing_enough m (bytes "OBR") g a e o.1) in
+  pub group_fits : framed m ≡ true → verdict profile01 m ≡ accepted → (slip : Text) → slip ≡ replicate slot_size 0 → Fillable q slip v
+  group_fits f a slip z =
+      let fit = accepted-fitting m g f a o.0 (standing_enough m (bytes "OBR") g order o.1) in
       record {
         zeros = z;
-        takes-control = taken-fits q _ control _ longest_control r.marks control-read (omega arith) fit.control.taken;
-        takes-patient = taken-fits q _ identity _ longest_text r.marks identity_read (omega arith) fit.patient.taken;
-        takes-placer = taken-fits q _ placer _ longest_text r.marks (r.placer-text ∙ order-read 2) (omega arith) fit.placer;
-        takes-filler = taken-fits q _ filler _ longest_text r.marks (r.filler-text ∙ order-read 3) (omega arith) fit.filler.taken;
-        takes-service = taken-fits q _ service _ longest_text r.marks (r.service-text ∙ order-read 4) (omega arith) fit.service.taken;
+        takes-control = taken-fits q _ v.control.now _ longest_control r.marks control-read (omega arith) fit.control.taken;
+        takes-patient = taken-fits q _ v.patient.now _ longest_text r.marks patient-read (omega arith) fit.patient.taken;
+        takes-placer = taken-fits q _ v.placer.now _ longest_text r.marks (r.placer-text ∙ order-read 2) (omega arith) fit.placer;
+        takes-filler = taken-fits q _ v.filler.now _ longest_text r.marks (r.filler-text ∙ order-read 3) (omega arith) fit.filler.taken;
+        takes-service = taken-fits q _ v.service.now _ longest_text r.marks (r.service-text ∙ order-read 4) (omega arith) fit.service.taken;
       }
 
   -- THE SLIP of the group
-  pub group_slip : (n : ℕ) (slip : Text) → n ≡ observations (segments (drop (e + 1) m))
-      → slip ≡ slip_of (values_of q control identity placer filler service n) → slip ≡ slip_text m g
+  pub group_slip : (slip : Text) → slip ≡ slip_of (values_of q v) → slip ≡ slip_text m g
   unfolding slip_text
-  group_slip n slip k s =
-      let c : n ≡ observations_of m g = k ∙ (group_count m g a e o.0 o.1).1 in
+  group_slip slip s =
+      let c : v.count ≡ observations_of m g = r.counted ∙ (group_count m g order o.0 o.1).1 in
       s
       ∙ rw (
         r.marks,
         control-read,
-        identity_read,
+        patient-read,
         r.placer-text ∙ order-read 2,
         r.filler-text ∙ order-read 3,
         r.service-text ∙ order-read 4,

@@ -15,7 +15,8 @@ use Rattle.parts.specs.Start.{before, reach}
 use Rattle.parts.proofs.Split.{before-first}
 use Rattle.parts.proofs.Reach.{ended-next, ended-last, before-next}
 use Rattle.parts.proofs.Descent.{within-length}
-use Rattle.reader.specs.declared.standing.Standing.TheVariants.{Segment}
+use Rattle.std.proofs.Common.{Some}
+use Rattle.text.specs.declared.span.Span.{Span}
 use Rattle.frame.specs.Segments.{segments, named, of_name}
 use Rattle.frame.specs.Starts.{ahead}
 use Rattle.reader.specs.Copied.{standing}
@@ -72,18 +73,18 @@ ahead-inside n [] i h = absurd (omega arith)
 ahead-inside n (s ∷ ss) i h = inside-step n s ss (named n s) refl (ahead-inside n ss) i h
 
 -- THE COUNT of the group whose OBR stands there, told from after that OBR's CR
-pub group_count : (m : Text) (g a e : ℕ) → 1 ≤ g → Segment a e ≡ standing m (bytes "OBR") g
-    → (e < length m) × (observations (segments (drop (e + 1) m)) ≡ observations_of m g)
-group_count m zero a e l o = absurd (omega arith)
-group_count m (suc i) a e _ o =
+pub group_count : (m : Text) (g : ℕ) (s : Span) → 1 ≤ g → Some s ≡ standing m (bytes "OBR") g
+    → (s.end < length m) × (observations (segments (drop (s.end + 1) m)) ≡ observations_of m g)
+group_count m zero s l o = absurd (omega arith)
+group_count m (suc i) s _ o =
     let n = bytes "OBR" in
     let ss = segments m in
     let k = ahead n ss i in
-    let few = ltb-false (length (of_name n ss)) (suc i) (standing_enough m n (suc i) a e o) in
-    let w = standing-inside m n (suc i) a e o in
-    let z = within-length m a e w.0 w.1 in
-    let t = ap length (standing-text m n (suc i) a e o) in
-    let l : e ≡ before cr m k + length (get_or ss k []) =
-    omega (arith, standing-start m n (suc i) a e o, ap length (ahead-named n ss i)) in
-    let b = pieces-behind cr k m e (ahead-inside n ss i (omega arith)) l in
-    (b.0, rw (add-one e, b.1) (sym (group_from ss i)))
+    let few = ltb-false (length (of_name n ss)) (suc i) (standing_enough m n (suc i) s o) in
+    let w = standing-inside m n (suc i) s o in
+    let z = within-length m s.start s.end w.0 w.1 in
+    let t = ap length (standing-text m n (suc i) s o) in
+    let l : s.end ≡ before cr m k + length (get_or ss k []) =
+    omega (arith, standing-start m n (suc i) s o, ap length (ahead-named n ss i)) in
+    let b = pieces-behind cr k m s.end (ahead-inside n ss i (omega arith)) l in
+    (b.0, rw (add-one s.end, b.1) (sym (group_from ss i)))

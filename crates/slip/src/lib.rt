@@ -5,11 +5,3 @@ mod filing;
 
 pub use filing::file;
 pub use slot::{SLOT_SIZE, no_slot, slot_start};
-use text::Refusal;
-
-// A slip filed, or why not.
-#[derive(Clone, Copy)]
-pub enum Filed {
-    Refused(Refusal),
-    Slip,
-}

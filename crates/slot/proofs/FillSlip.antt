@@ -1,42 +1,41 @@
 -- A slip's fields, written one after another into a slot of zeros.
-use mathlib.Core.Path.{◌≡◌, refl, ap, ◌∙◌}
-use Prim.Native.Nat.{ℕ, suc, ◌+◌, ◌*◌, ◌-◌, ◌/◌, ◌%◌, ◌≤◌}
+use mathlib.Core.Path.{◌≡◌, ap, subst, ◌∙◌}
+use Prim.Native.Nat.{ℕ, ◌+◌, ◌-◌, ◌/◌, ◌%◌, ◌≤◌}
 use native.Mathlib.Omega.{arith}
-use mathlib.Core.Bool.{Bool, true, false}
 use mathlib.Core.List.{[], ◌∷◌, ◌++◌, flat_map, append_assoc, append-nil}
-use lib.ListN.{length, set, replicate, length-replicate}
-use Rattle.text.specs.Bytes.{Text, pick, empty}
+use lib.ListN.{length, take, drop, replicate, length-append}
+use lib.Seq.{length-take-le, take-append-le, take-take, drop_at}
+use Rattle.text.specs.Bytes.{Text}
 use Rattle.escape.specs.Escape.{resolved}
 use Rattle.escape.specs.Length.{Fits}
 use Rattle.text.specs.Puts.{Puts}
 use Rattle.text.specs.declared.marks.Marks.{Marks}
 use Rattle.text.proofs.Tests.{empty-none, empty-some}
 use Rattle.text.proofs.Lists.{drop_replicate}
-use Rattle.text.proofs.Puts.{puts-length, puts_none, puts_one, puts-more, puts-before, puts-both, puts-front}
+use Rattle.text.proofs.Puts.{puts_none, puts-both, puts-front}
 use Rattle.escape.proofs.Escapes.{resolved-length, written-length}
-use Rattle.tags.specs.Fields.{count_tag, longest_text, head_size, count_size}
-use Rattle.tags.specs.Inner.{longest_field}
+use Rattle.tags.specs.Fields.{count_tag, longest_text, head_size}
+use Rattle.slot.specs.declared.Values.{Values}
 use Rattle.slot.specs.Slot.{tagged, two_bytes, tag_bytes, slot_size, slip_of}
 use Rattle.slot.specs.Inner.{values_of}
 
--- the tag and a length below 256
-puts_heading : (slip : Text) (at k n : ℕ) → at + 3 ≤ length slip
-    → Puts slip at (k ∷ 0 ∷ n ∷ []) (set (set (set slip at k) (at + 1) 0) (at + 2) n) (at + 3)
-puts_heading slip at k n h =
-    let a : at + 1 + 1 ≡ at + 2 = omega arith in
-    let b : at + 2 + 1 ≡ at + 3 = omega arith in
-    let one = puts_one slip at k (omega arith) in
-    let two = puts-more (at + 1) 0 refl (omega arith) one in
-    rw b at (puts-more (at + 2) n a (omega arith) two)
+-- a text before a text that is written already
+puts-before-it : {before : Text} {k : ℕ} {t mid : Text} {r j : ℕ} {s after : Text} → Puts before k t mid r → Puts mid j s after k → Puts before j (s ++ t) after r
+puts-before-it {before} {k} {t} {mid} {r} {j} {s} {after} p q =
+    let front = take k before in
+    let rest = t ++ drop (k + length t) before in
+    let long = length-take-le k before (omega (arith, p.room)) in
+    let held : mid ≡ front ++ rest = p.holds ∙ append_assoc front t (drop (k + length t) before) in
+    let first : take j mid ≡ take j before = ap (take j) held ∙ (take-append-le j front rest (omega (arith, long, q.ends)) ∙ take-take j k before (omega (arith, q.ends))) in
+    let last : drop (j + length s) mid ≡ rest = ap (drop (j + length s)) held ∙ drop_at front rest (j + length s) (long ∙ q.ends) in
+    let l : j + length (s ++ t) ≡ k + length t = omega (arith, length-append s t, q.ends) in
+    record {
+      room = omega (arith, p.room, l);
+      holds = q.holds ∙ rw (first, last, l) (simp append_assoc);
+      ends = omega (arith, p.ends, l);
+    }
 
--- the bytes of a field, by the length of its value
-field_step : (k n : ℕ) (v : Text) (b : Bool) → length v ≡ n → length (pick b [] (k ∷ (two_bytes n ++ v))) ≤ head_size + n
-field_step k n v true e = omega arith
-field_step k n v false e = omega arith
-
-field-length : (k : ℕ) (v : Text) → length (tag_bytes (tagged k v)) ≤ head_size + length v
-field-length k v = field_step k (length v) v (empty v) refl
-
+-- the bytes of a field
 module _ (k : ℕ) (v : Text) where
   field-none : length v ≡ 0 → tag_bytes (tagged k v) ≡ []
   field-none e = rw (empty-none v e)
@@ -62,79 +61,31 @@ module _ (q : Marks) (t : Text) (f : Fits q longest_text t) (slip : Text) (at k 
     pub text-room : at + head_size + length (resolved q t) ≤ length slip
     text-room = let r = rw told at room in omega arith
 
-    pub puts-text : {mid : Text} {r : ℕ} → Puts slip (at + head_size) (resolved q t) mid r
-        → Puts slip at (tag_bytes (tagged k (resolved q t))) (set (set (set mid (at + 2) (r - (at + head_size))) (at + 1) 0) at k) r
-    puts-text {mid} {r} p =
+    pub puts-text : {mid after : Text} {r k' : ℕ} → Puts slip (at + head_size) (resolved q t) mid r
+        → Puts mid at (k ∷ 0 ∷ (r - (at + head_size)) ∷ []) after k' → Puts slip at (tag_bytes (tagged k (resolved q t))) after r
+    puts-text {mid} {after} {r} p h =
         let n = length (resolved q t) in
         let e : r - (at + head_size) ≡ n = omega (arith, p.ends) in
-        let a : at + head_size ≡ at + 2 + 1 = omega arith in
-        let b : at + 2 ≡ at + 1 + 1 = omega arith in
-        rw (told, e, small-high n f.short, small_low n f.short) (puts-before at k refl (puts-before (at + 1) 0 b (puts-before (at + 2) n a p)))
-
--- the count's field
-pub puts-count : (slip : Text) (at n : ℕ) → at + count_size ≤ length slip
-    → Puts slip at (tag_bytes (tagged count_tag (two_bytes n)))
-    (set (set (set (set (set slip at count_tag) (at + 1) 0) (at + 2) 2) (at + 3) (n / 256 % 256)) (at + 4) (n % 256)) (at + count_size)
-puts-count slip at n h =
-    let c : at + 3 + 1 ≡ at + 4 = omega arith in
-    let d : at + 4 + 1 ≡ at + count_size = omega arith in
-    let four = puts-more (at + 3) (n / 256 % 256) refl (omega arith) (puts_heading slip at count_tag 2 (omega arith)) in
-    rw d at (puts-more (at + 4) (n % 256) c (omega arith) four)
-
--- so many fields of texts stand at the slot's front
-pub record Begun (n : ℕ) (t slip : Text) (at : ℕ) : Type 0 where
-  pub puts : Puts (replicate slot_size 0) 0 t slip at
-  pub short : at ≤ longest_field * n
-
-pub begun-none : (slip : Text) → slip ≡ replicate slot_size 0 → Begun 0 [] slip 0
-begun-none slip e =
-    record {
-      puts = rw e (puts_none (replicate slot_size 0) 0 (omega arith));
-      short = omega arith;
-    }
-
-module _ {n : ℕ} {t slip : Text} {at : ℕ} (b : Begun n t slip at) where
-  slot-length : length slip ≡ slot_size
-  slot-length = puts-length b.puts ∙ length-replicate {A = ℕ} slot_size 0
-
-  module _ (k : ℕ) (q : Marks) (u : Text) (f : Fits q longest_text u) where
-    abbrev bytes : Text
-    bytes = tag_bytes (tagged k (resolved q u))
-
-    short-field : length bytes ≤ longest_field
-    short-field = omega (arith, field-length k (resolved q u), f.short)
-
-    pub begun-room : n ≤ 4 → at + length bytes ≤ length slip
-    begun-room h = omega (arith, slot-length, short-field, b.short)
-
-    pub begun_more : {after : Text} {r : ℕ} → Puts slip at bytes after r → Begun (suc n) (t ++ bytes) after r
-    begun_more p = record { puts = puts-both b.puts p; short = omega (arith, short-field, b.short, p.ends) }
-
-  pub count_room : n ≤ 5 → at + count_size ≤ length slip
-  count_room h = omega (arith, slot-length, b.short)
+        rw (told, small-high n f.short, small_low n f.short, ← e) (puts-before-it p (subst (Puts mid at (k ∷ 0 ∷ (r - (at + head_size)) ∷ []) after) h.ends h))
 
 zeros-behind : (n : ℕ) {t after : Text} {r : ℕ} → Puts (replicate n 0) 0 t after r → after ≡ t ++ replicate (n - length t) 0
 zeros-behind n {t} p = puts-front p ∙ rw (drop_replicate {A = ℕ} 0 (length t) n)
 
-joined : (a b c d e f : Text) → ((((([] ++ a) ++ b) ++ c) ++ d) ++ e) ++ f ≡ a ++ (b ++ (c ++ (d ++ (e ++ (f ++ [])))))
+joined : (a b c d e f : Text) → ((((a ++ b) ++ c) ++ d) ++ e) ++ f ≡ a ++ (b ++ (c ++ (d ++ (e ++ (f ++ [])))))
 joined a b c d e f = simp (append_assoc, append-nil)
 
--- THE SLIP, when the count stands after the five texts
-pub slip-filled : (q : Marks) (control patient placer filler service : Text) (count : ℕ) (slip : Text) (at : ℕ) (after : Text) (r : ℕ)
-    → Begun 5
-    ((((([] ++ tag_bytes (tagged 1 (resolved q control))) ++ tag_bytes (tagged 2 (resolved q patient)))
-    ++ tag_bytes (tagged 3 (resolved q placer)))
-    ++ tag_bytes (tagged 4 (resolved q filler)))
-    ++ tag_bytes (tagged 5 (resolved q service)))
-    slip at
-    → Puts slip at (tag_bytes (tagged count_tag (two_bytes count))) after r
-    → after ≡ slip_of (values_of q control patient placer filler service count)
+-- THE SLIP, when the five texts and the count stand in a slot of zeros, one after another
+pub slip-filled : (q : Marks) (v : Values) {slip a b c d e after : Text} {i j k l m n : ℕ} → slip ≡ replicate slot_size 0
+    → Puts slip 0 (tag_bytes (tagged 1 (resolved q v.control.now))) a i
+    → Puts a i (tag_bytes (tagged 2 (resolved q v.patient.now))) b j
+    → Puts b j (tag_bytes (tagged 3 (resolved q v.placer.now))) c k
+    → Puts c k (tag_bytes (tagged 4 (resolved q v.filler.now))) d l
+    → Puts d l (tag_bytes (tagged 5 (resolved q v.service.now))) e m
+    → Puts e m (tag_bytes (tagged count_tag (two_bytes v.count))) after n
+    → after ≡ slip_of (values_of q v)
 unfolding slip_of flat_map
-slip-filled q control patient placer filler service count slip at after r b p =
-    let f1 = tag_bytes (tagged 1 (resolved q control)) in
-    let f2 = tag_bytes (tagged 2 (resolved q patient)) in
-    let f3 = tag_bytes (tagged 3 (resolved q placer)) in
-    let f4 = tag_bytes (tagged 4 (resolved q filler)) in
-    let f5 = tag_bytes (tagged 5 (resolved q service)) in
-    let e = joined f1 f2 f3 f4 f5 (tag_bytes (tagged count_tag (two_bytes count))) in
-    zeros-behind slot_size (puts-both b.puts p) ∙ ap (λ (t : Text). t ++ replicate (slot_size - length t) 0) e
+slip-filled q v z control patient placer filler service count =
+    let f = λ (k : ℕ) (t : Text). tag_bytes (tagged k (resolved q t)) in
+    zeros-behind slot_size (puts-both (puts-both (puts-both (puts-both (puts-both (rw z at control) patient) placer) filler) service) count)
+    ∙ ap (λ (t : Text). t ++ replicate (slot_size - length t) 0)
+    (joined (f 1 v.control.now) (f 2 v.patient.now) (f 3 v.placer.now) (f 4 v.filler.now) (f 5 v.service.now) (tag_bytes (tagged count_tag (two_bytes v.count))))

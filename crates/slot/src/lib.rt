@@ -11,7 +11,7 @@ ghost use Rattle.slot.specs.Inner.{Fillable, values_of};
 
 use escape::put_resolved;
 use tags::{COUNT_TAG, HEAD_SIZE};
-use text::Marks;
+use text::{Marks, put};
 
 // Bytes of a slot.
 pub const SLOT_SIZE: usize = 1024;
@@ -23,14 +23,12 @@ fn put_text(slip: &mut [u8], at: usize, tag: u8, q: Marks, t: &[u8]) -> usize
     requires room { at + length (tag_bytes (tagged tag (resolved q t.now))) ≤ length slip.old }
     ensures { Puts slip.old at (tag_bytes (tagged tag (resolved q t.now))) slip.new result }
 {
-    if t.len() == 0 {
+    if t.is_empty() {
         return at;
     }
     let start = at + HEAD_SIZE;
     let end = put_resolved(slip, start, q, t);
-    slip[at + 2] = (end - start) as u8;
-    slip[at + 1] = 0;
-    slip[at] = tag;
+    put(slip, at, &[tag, 0, (end - start) as u8]);
     end
 }
 
@@ -39,33 +37,32 @@ fn put_count(slip: &mut [u8], at: usize, n: u64)
     requires { at + count_size ≤ length slip.old }
     ensures { Puts slip.old at (tag_bytes (tagged count_tag (two_bytes n))) slip.new (at + count_size) }
 {
-    slip[at] = COUNT_TAG;
-    slip[at + 1] = 0;
-    slip[at + 2] = 2;
-    slip[at + 3] = (n / 256 % 256) as u8;
-    slip[at + 4] = (n % 256) as u8;
+    let [.., high, low] = n.to_be_bytes();
+    put(slip, at, &[COUNT_TAG, 0, 2, high, low]);
 }
 
-// A slip of the five texts and the count, in a slot of zeros. Inner: the callers hold that each text fits.
-pub fn fill(
-    slip: &mut [u8],
-    q: Marks,
-    control: &[u8],
-    patient: &[u8],
-    placer: &[u8],
-    filler: &[u8],
-    service: &[u8],
-    count: u64,
-)
-    requires { Fillable q slip.old control.now patient.now placer.now filler.now service.now }
-    ensures { slip.new ≡ slip_of (values_of q control.now patient.now placer.now filler.now service.now count) }
+// What a slip tells of a group: five texts of its message, and how many OBX it has.
+#[derive(Clone, Copy)]
+pub struct Values<'a> {
+    pub control: &'a [u8],
+    pub patient: &'a [u8],
+    pub placer: &'a [u8],
+    pub filler: &'a [u8],
+    pub service: &'a [u8],
+    pub count: u64,
+}
+
+// A slip of these values, in a slot of zeros. Inner: the callers hold that each text fits.
+pub fn fill(slip: &mut [u8], q: Marks, v: Values)
+    requires { Fillable q slip.old v }
+    ensures { slip.new ≡ slip_of (values_of q v.entry) }
 {
-    let a = put_text(slip, 0, 1, q, control);
-    let b = put_text(slip, a, 2, q, patient);
-    let c = put_text(slip, b, 3, q, placer);
-    let d = put_text(slip, c, 4, q, filler);
-    let e = put_text(slip, d, 5, q, service);
-    put_count(slip, e, count);
+    let a = put_text(slip, 0, 1, q, v.control);
+    let b = put_text(slip, a, 2, q, v.patient);
+    let c = put_text(slip, b, 3, q, v.placer);
+    let d = put_text(slip, c, 4, q, v.filler);
+    let e = put_text(slip, d, 5, q, v.service);
+    put_count(slip, e, v.count);
 }
 
 // NO SLOT: the book's length is divided.

@@ -1,44 +1,24 @@
 // The words of a line that spell strings of bytes.
 #![tactic(auto)]
 
-ghost use Rattle.std.specs.Prelude.{◌≤◌, length};
+ghost use Rattle.std.specs.Prelude.{◌≤◌, length, IfSome};
 
 mod reading;
 
 pub use reading::is_plain;
 use reading::read_string;
-use words::seek;
-
-// A string that was read into lent memory: how many bytes, and where the next word begins.
-#[derive(Clone, Copy)]
-pub struct Text {
-    pub is_good: bool,
-    pub count: usize,
-    pub next: usize,
-}
+use words::Words;
 
 // Memory for the longest string.
 pub fn memory() -> [u8; 131072] {
     [0u8; 131072]
 }
 
-// The string that the word there spells.
-pub fn next_string(l: &[u8], at: usize, into: &mut [u8]) -> Text
-    ensures { result.count ≤ length into.new }
+// The string that the next word spells, in the memory that is lent for it.
+pub fn next_string<'a>(words: &mut Words, into: &'a mut [u8]) -> Option<&'a mut [u8]>
+    ensures { IfSome result (λ s. length s.now ≤ length into.old) }
 {
-    if l.len() <= at {
-        return Text {
-            is_good: false,
-            count: 0,
-            next: at,
-        };
-    }
-    let start = at + 1;
-    let end = seek(l, start, b' ');
-    let r = read_string(&l[start..end], into);
-    Text {
-        is_good: r.is_good & (l[at] == b'='),
-        count: r.count,
-        next: end + 1,
-    }
+    let spelt = words.next()?.strip_prefix(b"=")?;
+    let count = read_string(spelt, into)?;
+    into.get_mut(..count)
 }

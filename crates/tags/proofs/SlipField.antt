@@ -1,5 +1,6 @@
 -- Laws of a field as it stands in a slip, and of the count after the fields.
 use mathlib.Core.Path.{◌≡◌, sym, ap, subst, ◌∙◌}
+use Rattle.std.proofs.Common.{Option, Some, None}
 use Prim.Native.Nat.{ℕ, ◌+◌, ◌*◌, ◌-◌, ◌≤◌}
 use native.Mathlib.Nat.{add-zero}
 use native.Mathlib.Omega.{arith}
@@ -13,8 +14,6 @@ use Rattle.text.specs.Bytes.{Text, pick, printable, every, within}
 use Rattle.text.specs.Ranges.{◌to◌, is_within}
 use Rattle.text.proofs.Tests.{both}
 use Rattle.text.proofs.Lists.{part-rest}
-use Rattle.tags.specs.declared.Field.{Field}
-use Rattle.tags.specs.declared.Field.TheVariants as field
 use Rattle.tags.specs.Fields.{control_tag, placer_tag, count_tag, longest_control, longest_text, greatest_count, count_size, most_of, expected_of, size, value, has_tag, Expected, is_there, taken, is_zero, is_slip_from}
 use Rattle.tags.specs.Inner.{ReadsTag}
 
@@ -60,10 +59,10 @@ module _ (s : Text) (at k : ℕ) where
     left_out : (is_there (expected_of k) (drop at s) ≡ eqb k placer_tag) × (taken (expected_of k) (drop at s) ≡ 0)
     left_out = gone_as (expected_of k) (drop at s) (tag_at s at k false (ne_eqb (get_or s at 0) k gone))
 
-    pub field_skipped : k ≡ placer_tag → ReadsTag s at k (field.Ends at)
+    pub field_skipped : k ≡ placer_tag → ReadsTag s at k (Some at)
     field_skipped e = (left_out.0 ∙ eq-eqb k placer_tag e, (omega (arith, left_out.1), omega arith))
 
-    pub field-missing : (k ≡ placer_tag → ⊥) → ReadsTag s at k field.Bad
+    pub field-missing : (k ≡ placer_tag → ⊥) → ReadsTag s at k None
     field-missing n = left_out.0 ∙ ne_eqb k placer_tag n
 
   module _ (there : get_or s at 0 ≡ k) (n most : ℕ) (number : n ≡ get_or s (at + 1) 0 * 256 + get_or s (at + 2) 0) (limit : most ≡ most_of k) where
@@ -75,7 +74,7 @@ module _ (s : Text) (at k : ℕ) where
         let e = size-at s at n number in
         rw limit (there_as (expected_of k) (drop at s) (within (at + 3) (at + 3 + n) s) n tagged (value-at s at n e) e)
 
-    pub field-length : not (leb 1 n && leb n most) ≡ true → ReadsTag s at k field.Bad
+    pub field-length : not (leb 1 n && leb n most) ≡ true → ReadsTag s at k None
     field-length w = asked ∙ rw (not-true (leb 1 n && leb n most) w)
 
     module _ (fits : not (leb 1 n && leb n most) ≡ false) where
@@ -83,10 +82,10 @@ module _ (s : Text) (at k : ℕ) where
         printed : is_there (expected_of k) (drop at s) ≡ b
         printed = asked ∙ rw (not-false (leb 1 n && leb n most) fits) (sym plain)
 
-        pub field-bytes : not b ≡ true → ReadsTag s at k field.Bad
+        pub field-bytes : not b ≡ true → ReadsTag s at k None
         field-bytes w = printed ∙ not-true b w
 
-        pub field-read : not b ≡ false → ReadsTag s at k (field.Ends (at + 3 + n))
+        pub field-read : not b ≡ false → ReadsTag s at k (Some (at + 3 + n))
         field-read w =
             let takes = taken_as (expected_of k) (drop at s) n tagged (size-at s at n number) in
             (printed ∙ not-false b w, (omega (arith, takes), omega (arith, number_small k n most limit fits)))
@@ -100,5 +99,5 @@ ends_as s at n count b e f z =
     rw (e, f, z, part-rest (at + count_size) s, drop-drop count_size at s, first-at s at, get_or-drop at s 1 0, get_or-drop at s 2 0, get_or-drop at s 3 0, get_or-drop at s 4 0)
 
 -- along which case of the answer it is
-pub field_as : (s : Text) (at k : ℕ) (r f : Field) → r ≡ f → ReadsTag s at k r → ReadsTag s at k f
-field_as s at k r f e h = subst (λ (x : Field). ReadsTag s at k x) e h
+pub field_as : (s : Text) (at k : ℕ) (r f : Option ℕ) → r ≡ f → ReadsTag s at k r → ReadsTag s at k f
+field_as s at k r f e h = subst (λ (x : Option ℕ). ReadsTag s at k x) e h

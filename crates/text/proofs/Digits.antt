@@ -37,7 +37,7 @@ module _ (d : Text) (n : ℕ) where
       rw (e, le-ltb n 10 l, written d j (byte "0" + n % 10) (omega arith))
 
   -- no step is left
-  pub digits-none : (i : ℕ) → i ≤ 0 → drop i d ≡ digits_before i n (drop i d)
+  pub digits-none : (i : ℕ) → i ≤ 0 → d ≡ digits_before i n (drop i d)
   unfolding digits_before
   digits-none zero h = refl
   digits-none (suc j) h = absurd (omega arith)

@@ -1,14 +1,11 @@
 -- Laws of the three sorts: what is Null has two bytes, and what is not Null is Text where it is not Empty.
 use mathlib.Core.Path.{◌≡◌, refl}
-use native.Mathlib.Omega.{arith}
-use mathlib.Core.Bool.{Bool, true, false, not, ◌&&◌, ◌||◌}
+use mathlib.Core.Bool.{Bool, true, false, not, ◌||◌}
 use mathlib.Core.List.{[], ◌∷◌}
-use lib.ListN.{length, get_or}
-use lib.Dec.{eqb}
-use Rattle.text.specs.Bytes.{Text, bytes, byte, empty, same}
+use lib.ListN.{length}
+use Rattle.text.specs.Bytes.{Text, bytes, empty, same}
 use Rattle.text.specs.Sorts.{is_null, is_text}
 use Rattle.text.proofs.Tests.{not-true, same_true, same_length}
-use Rattle.text.proofs.Lists.{and-true}
 
 -- what is Null is the two quotation marks
 pub null_is : (t : Text) → is_null t ≡ true → t ≡ bytes "\"\""
@@ -17,13 +14,6 @@ null_is t e = same_true t (bytes "\"\"") e
 -- so it has two bytes
 pub null_other : (t : Text) → (length t ≡ 2 → ⊥) → is_null t ≡ false
 null_other t h = same_length t (bytes "\"\"") h
-
-pub null_two : (t : Text) → length t ≡ 2 → eqb (get_or t 0 0) (byte "\"") && eqb (get_or t 1 0) (byte "\"") ≡ is_null t
-unfolding same
-null_two [] e = absurd (omega arith)
-null_two (a ∷ []) e = absurd (omega arith)
-null_two (a ∷ b ∷ []) e = rw (and-true (eqb b (byte "\"")))
-null_two (a ∷ b ∷ c ∷ t) e = absurd (omega arith)
 
 pub empty_null : (t : Text) → empty t ≡ true → is_null t ≡ false
 unfolding same

@@ -1,13 +1,12 @@
 -- Laws of the tests on bytes.
 use mathlib.Core.Path.{◌≡◌, refl, ap}
-use Prim.Native.Nat.{ℕ, suc, ◌+◌, ◌≤◌, ◌<◌}
-use native.Mathlib.Numerals.{add-one}
+use Prim.Native.Nat.{ℕ, suc, ◌≤◌}
 use native.Mathlib.Omega.{arith}
 use mathlib.Core.Bool.{Bool, true, false, ◌&&◌}
 use mathlib.Core.List.{[], ◌∷◌}
-use lib.ListN.{length, get_or, drop, drop_of_length-le}
-use lib.Seq.{drop-cons}
+use lib.ListN.{length}
 use lib.Dec.{eqb, leb}
+use lib.Pointwise.{pointwise}
 use borrow.Author.Tests.{eq-eqb, ne_eqb, eqb-true, leb-true}
 use Rattle.text.specs.Bytes.{Text, pick, empty, same}
 use Rattle.text.specs.Ranges.{◌to◌, is_within}
@@ -67,19 +66,13 @@ same_length [] (y ∷ t) h = refl
 same_length (x ∷ s) [] h = refl
 same_length (x ∷ s) (y ∷ t) h = rw (same_length s t (λ e. h (ap suc e))) (and-false (eqb x y))
 
--- what is left to compare: a byte further, at a difference, and at the end
-module _ (s t : Text) (i : ℕ) where
-  pub same_step : i < length s → i < length t → get_or s i 0 ≡ get_or t i 0 → same (drop i s) (drop i t) ≡ same (drop (i + 1) s) (drop (i + 1) t)
-  unfolding same
-  same_step h l e = rw (add-one, drop-cons s i 0, drop-cons t i 0, eq-eqb (get_or s i 0) (get_or t i 0))
-
-  pub same_differ : i < length s → i < length t → (get_or s i 0 ≡ get_or t i 0 → ⊥) → same (drop i s) (drop i t) ≡ false
-  unfolding same
-  same_differ h l e = rw (drop-cons s i 0, drop-cons t i 0, ne_eqb (get_or s i 0) (get_or t i 0))
-
-  pub same_end : length s ≤ i → length t ≤ i → same (drop i s) (drop i t) ≡ true
-  unfolding same
-  same_end h l = rw (drop_of_length-le s h, drop_of_length-le t l)
+-- `==` of two slices says that they are equal
+pub pointwise-same : (s t : Text) → pointwise eqb s t ≡ same s t
+unfolding same
+pointwise-same [] [] = refl
+pointwise-same [] (y ∷ t) = refl
+pointwise-same (x ∷ s) [] = refl
+pointwise-same (x ∷ s) (y ∷ t) = ap (λ b. eqb x y && b) (pointwise-same s t)
 
 -- what holds of both holds of the one that is picked
 pub picks : {A : Type 0} (P : A → Type 0) (b : Bool) {x y : A} → P x → P y → P (pick b x y)

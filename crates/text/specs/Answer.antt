@@ -1,10 +1,8 @@
 -- An entry's promise is made of this.
 -- The numbers a caller gets back. An answer is the first refusal that applies, or what was asked for.
-use Rattle.std.specs.Prelude.{ℕ, Bool, true, false, List, [], ◌∷◌, ◌++◌, length, drop}
+use Rattle.std.specs.Prelude.{ℕ, Bool, true, false, List, [], ◌∷◌, ◌++◌, length, drop, Result, Ok, Err}
 use Rattle.text.specs.Bytes.{Text, pick}
 use Rattle.text.specs.declared.refusal.Refusal.{Refusal}
-use Rattle.text.specs.declared.Written.{Written}
-use Rattle.text.specs.declared.Written.TheVariants.{Refused, Bytes}
 use Rattle.text.specs.declared.refusal.Refusal.TheVariants.{Empty, TooLong, BadByte, NoHeader, NoEnd, BadSegment, SecondHeader, TooMany, BadPlace, NoSegment, BadStamp, BadReplyNumber, NoControlNumber, NoRoom, NotAccepted, NoGroup, NoSlot, BadSlip, NoTag, BadEscape}
 
 abbrev pub number_of : Refusal → ℕ
@@ -65,6 +63,11 @@ tell f (given a) = given (f a)
 abbrev pub reported : Answer Text → Answer ℕ
 reported a = tell length a
 
-abbrev pub written_of : Written → Answer ℕ
-written_of (Refused r) = refused r
-written_of (Bytes n) = given n
+-- what the code's result tells, by what its value tells
+abbrev pub answer_of : {A B : Type 0} → (A → B) → Result A Refusal → Answer B
+answer_of f (Ok a) = given (f a)
+answer_of f (Err r) = refused r
+
+-- so many bytes written
+abbrev pub written_of : Result ℕ Refusal → Answer ℕ
+written_of r = answer_of (λ n. n) r

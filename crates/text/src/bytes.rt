@@ -6,13 +6,13 @@ ghost use Rattle.text.specs.Sorts.{is_null, is_text};
 pub fn is_capital(b: u8) -> bool
     ensures { result ≡ capital b }
 {
-    (b'A' <= b) & (b <= b'Z')
+    b.is_ascii_uppercase()
 }
 
 pub fn is_digit(b: u8) -> bool
     ensures { result ≡ digit b }
 {
-    (b'0' <= b) & (b <= b'9')
+    b.is_ascii_digit()
 }
 
 pub fn is_capital_or_digit(b: u8) -> bool
@@ -24,39 +24,26 @@ pub fn is_capital_or_digit(b: u8) -> bool
 pub fn is_printable(b: u8) -> bool
     ensures { result ≡ printable b }
 {
-    (0x20 <= b) & (b <= 0x7E)
+    matches!(b, 0x20..=0x7E)
 }
 
 // Whether the two texts are equal.
 pub fn is_same(s: &[u8], t: &[u8]) -> bool
     ensures { result ≡ same s.now t.now }
 {
-    if s.len() != t.len() {
-        return false;
-    }
-    let mut i = 0;
-    while i < s.len() {
-        if s[i] != t[i] {
-            return false;
-        }
-        i += 1;
-    }
-    true
+    s == t
 }
 
 // Whether what stands there is Null: two quotation marks and nothing else.
 pub fn is_null(s: &[u8]) -> bool
     ensures { result ≡ is_null s.now }
 {
-    if s.len() != 2 {
-        return false;
-    }
-    (s[0] == b'"') & (s[1] == b'"')
+    is_same(s, b"\"\"")
 }
 
 // Whether it is Text: neither Null nor Empty.
 pub fn is_text(s: &[u8]) -> bool
     ensures { result ≡ is_text s.now }
 {
-    !(is_null(s) | (s.len() == 0))
+    !is_null(s) && !s.is_empty()
 }

@@ -8,14 +8,9 @@ pub fn put(out: &mut [u8], at: usize, t: &[u8]) -> usize
     requires { at + length t.now ≤ length out.old }
     ensures { Puts out.old at t.now out.new result }
 {
-    let mut to = at;
-    let mut i = 0;
-    while i < t.len() {
-        out[to] = t[i];
-        to += 1;
-        i += 1;
-    }
-    to
+    let end = at + t.len();
+    out[at..end].copy_from_slice(t);
+    end
 }
 
 // Puts the digits of n at the end of 20 bytes, and answers where they start.
@@ -24,16 +19,14 @@ fn spell(digits: &mut [u8], n: u64) -> usize
     ensures { (result ≤ 20) × (drop result digits.new ≡ decimal n) }
 {
     let mut left = n;
-    let mut i = 20;
-    while 0 < i {
-        i -= 1;
+    for i in (0..20).rev() {
         digits[i] = b'0' + (left % 10) as u8;
         if left < 10 {
             return i;
         }
         left /= 10;
     }
-    i
+    0
 }
 
 // Puts a number's digits at a place, and answers where they end.

@@ -9,7 +9,7 @@ use Rattle.text.specs.Bytes.{Text}
 use Rattle.text.specs.declared.marks.Marks.{Marks}
 use Rattle.frame.specs.Segments.{field, unsplit}
 use Rattle.profile.specs.Table.{Table, Leaf, Rule, leaves_of}
-use Rattle.codes.specs.declared.rows.Rows.{Rows}
+use Rattle.text.specs.declared.span.Span.{Span}
 use Rattle.profile.specs.Numbers.{table_of, field_column, repetitions_column, first_field}
 use Rattle.codes.specs.Inner.{Lists, leaves_at, rule_at}
 use Rattle.fields.specs.declared.field.ReadField.{ReadField}
@@ -48,7 +48,7 @@ module _ (q : Marks) (table : List ℕ) (s : Text) (k at end : ℕ) (numbered : 
 
   -- what was read of it, by the rows of its leaves, is what is seen of it
   module _ (x : Text) (is : x ≡ field q s (get_or table (at + field_column) 0))
-      (rows : Rows) (lists : Lists table rows (leaves_of_field q table s at end)) (a : ReadField) (by_rows : ReadsField q (leaves_at table rows) (get_or table (at + repetitions_column) 0) x a) where
+      (rows : Span) (lists : Lists table rows (leaves_of_field q table s at end)) (a : ReadField) (by_rows : ReadsField q (leaves_at table rows) (get_or table (at + repetitions_column) 0) x a) where
     pub reads : ReadsField q (leaves_of_field q table s at end) u.repetitions x a
     reads = subst (λ (ls : List Leaf). ReadsField q ls u.repetitions x a) lists.leaves by_rows
 

@@ -13,7 +13,7 @@ use Rattle.frame.specs.Segments.{name}
 use Rattle.profile.specs.Table.{C, gathered}
 use Rattle.profile.specs.Numbers.{row_of, rows_within, table_of, field_column, row_size, first_field, next_column}
 use Rattle.profile.specs.Order.{are_of, of_field, guides, Ordered}
-use Rattle.codes.specs.declared.rows.Rows.{Rows}
+use Rattle.text.specs.declared.span.Span.{Span}
 use Rattle.codes.specs.Inner.{Under, IsField, rule_at}
 use Rattle.checks.specs.View.{Field, field_seen, segment_seen}
 use Rattle.checks.specs.Fault.{first_filled, is_required}
@@ -35,7 +35,7 @@ abbrev pub seen_from : List ℕ → Marks → Text → ℕ → ℕ → List Fiel
 seen_from table q s at end = map (field_seen (table_of table) q s) (gathered (map (row_of (name s)) (rows_within at end table)))
 
 -- all of them
-pub left-first : {table : List ℕ} {k : ℕ} {r : Rows} → Under table k r → Left table k r.start r.end
+pub left-first : {table : List ℕ} {k : ℕ} {r : Span} → Under table k r → Left table k r.start r.end
 left-first {table} {k} {r} u =
     let e = sym u.rows in
     record {
@@ -46,7 +46,7 @@ left-first {table} {k} {r} u =
       guided = subst (λ (rs : List (List ℕ)). guides r.start rs ≡ true) e u.guided;
     }
 
-pub seen_all : {table : List ℕ} {k : ℕ} {r : Rows} (q : Marks) (s : Text) → HasNumber s k → Under table k r
+pub seen_all : {table : List ℕ} {k : ℕ} {r : Span} (q : Marks) (s : Text) → HasNumber s k → Under table k r
     → (segment_seen (table_of table) q s).fields ≡ seen_from table q s r.start r.end
 unfolding segment_seen
 seen_all {table} {k} {r} q s h u =
@@ -105,7 +105,7 @@ pub record Seeks (table : List ℕ) (q : Marks) (s : Text) (k number at end : �
   pub left : Left table k at end
   pub told : is_required (C number) (segment_seen (table_of table) q s).fields ≡ is_required (C number) (seen_from table q s at end)
 
-pub seeks_first : {table : List ℕ} (q : Marks) (s : Text) {k : ℕ} (number : ℕ) {r : Rows} → HasNumber s k → Under table k r
+pub seeks_first : {table : List ℕ} (q : Marks) (s : Text) {k : ℕ} (number : ℕ) {r : Span} → HasNumber s k → Under table k r
     → Seeks table q s k number r.start r.end
 seeks_first q s number h u = record { left = left-first u; told = ap (is_required (C number)) (seen_all q s h u) }
 

@@ -1,39 +1,41 @@
-// The words of a line, and the numbers among them. A word begins at `at`; where the line has no more words, that is after its end.
+// The words of a line, and the numbers among them. A blank stands between two words, and each may be empty.
 #![tactic(auto)]
 
 mod ends;
-mod numbers;
 
+use asked::asked_number;
 pub use ends::seek;
-pub use numbers::{Number, read_number};
 
-// A number that was read, and where the next word begins.
-#[derive(Clone, Copy)]
-pub struct Numeral {
-    pub is_good: bool,
-    pub value: u64,
-    pub next: usize,
+// The words of a line that have not been read.
+#[derive(Drop)]
+pub struct Words<'a> {
+    // from the next word on; none once the last one has been read
+    rest: Option<&'a [u8]>,
 }
 
-// The number that the word there writes.
-pub fn next_number(l: &[u8], at: usize) -> Numeral {
-    if l.len() < at {
-        return Numeral {
-            is_good: false,
-            value: 0,
-            next: at,
-        };
+impl<'a> Words<'a> {
+    pub fn of(line: &'a [u8]) -> Self {
+        Words { rest: Some(line) }
     }
-    let end = seek(l, at, b' ');
-    let n = read_number(&l[at..end]);
-    Numeral {
-        is_good: n.is_good,
-        value: n.value,
-        next: end + 1,
+
+    // The number that the next word writes.
+    pub fn number(&mut self) -> Option<u64> {
+        asked_number(self.next()?)
+    }
+
+    // Whether the line has no more words.
+    pub fn is_over(&self) -> bool {
+        self.rest.is_none()
     }
 }
 
-// Whether the line has no more words.
-pub fn is_over(l: &[u8], at: usize) -> bool {
-    l.len() < at
+impl<'a> Iterator for Words<'a> {
+    type Item = &'a [u8];
+
+    fn next(&mut self) -> Option<&'a [u8]> {
+        let rest = self.rest?;
+        let end = seek(rest, 0, b' ');
+        self.rest = rest.get(end + 1..);
+        Some(&rest[..end])
+    }
 }

@@ -1,5 +1,4 @@
 -- `first_piece`: piece 1 starts at the text's start.
-use borrow.Author.Rules.{rules}
 use mathlib.Core.Path.{refl}
 use Rattle.cursor.proofs.Moving.{cursor-first}
 use Rattle.cursor.proofs.first_piece.Goals as goal

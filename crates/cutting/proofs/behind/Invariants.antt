@@ -1,11 +1,8 @@
 -- `behind`: the pieces that are left are told from where the loop stands.
-use Prim.Native.Nat.{◌≤◌}
+use Prim.Native.Nat.{◌-◌, ◌≤◌}
 use lib.ListN.{length}
 use Rattle.cutting.proofs.Cutting.{Left}
 use Rattle.cutting.proofs.behind.Given as goal
 
-abbrev pub invariant-loop-left : goal.invariant-loop-left
-invariant-loop-left l = (l.from ≤ length l.t) × Left l.sep l.t l.n l.left l.from
-
-abbrev pub decreases-loop-left : goal.decreases-loop-left
-decreases-loop-left l = l.left
+abbrev pub invariant-loop : goal.invariant-loop
+invariant-loop l = (l.from ≤ length l.t) × Left l.sep l.t l.n (l.n - l.counter) l.from

@@ -1,11 +1,10 @@
 -- `put_resolved`: each step writes one byte.
-use Prim.Native.Nat.{◌-◌}
-use lib.ListN.{length}
+use Rattle.std.proofs.Common.{length}
 use Rattle.escape.proofs.Escapes.{Filled}
 use Rattle.escape.proofs.put_resolved.Given as goal
 
-abbrev pub invariant-loop-i : goal.invariant-loop-i
-invariant-loop-i l = Filled l.q l.t l.initial.out l.at l.out l.to l.i
+abbrev pub invariant-loop-b : goal.invariant-loop-b
+invariant-loop-b l = Filled l.q l.t l.initial.out l.at l.out l.to l.rest
 
-abbrev pub decreases-loop-i : goal.decreases-loop-i
-decreases-loop-i l = length l.t - l.i
+abbrev pub decreases-loop-b : goal.decreases-loop-b
+decreases-loop-b l = length l.rest

@@ -1,14 +1,14 @@
 -- `resolve`: a bad escape, no room, or the resolved text.
+use Rattle.std.proofs.lemmas.Result.{err_from_is_err_and}
 use Rattle.escape.proofs.Escapes.{resolves-bad, resolves_full, resolves-given}
 use Rattle.escape.proofs.resolve.Goals as goal
 
+pub returns-in_err-n : goal.returns-in_err-n
+returns-in_err-n c = let p = err_from_is_err_and c.from_residual.result c.from_residual.ensures.1 in
+    rw (p.1, p.2) (resolves-bad _ _ _ c.usual_marks-q.ensures _ c.resolved_len.ensures _ c.in_err-n.ensures.value)
+
 pub returns-then-buffer-n : goal.returns-then-buffer-n
-returns-then-buffer-n c = let m = c.in-Bytes.ensures in
-    resolves_full c.usual_marks-q.result c.args.text.now c.args.buffer.now c.usual_marks-q.ensures _ m.0 m.1 c.if-buffer-n.true
+returns-then-buffer-n c = resolves_full _ _ _ c.usual_marks-q.ensures _ c.resolved_len.ensures _ c.in_ok-n.ensures.value c.if-buffer-n.true
 
-pub returns-in-BadEscape : goal.returns-in-BadEscape
-returns-in-BadEscape c = resolves-bad c.usual_marks-q.result c.args.text.now c.args.buffer.now c.usual_marks-q.ensures c.in-BadEscape.ensures
-
-pub returns-else-buffer-n : goal.returns-else-buffer-n
-returns-else-buffer-n c =
-    resolves-given c.usual_marks-q.result c.args.text.now c.args.buffer.now c.usual_marks-q.ensures _ _ c.in-Bytes.ensures.0 c.put_resolved.ensures
+pub returns : goal.returns
+returns c = resolves-given _ _ _ c.usual_marks-q.ensures _ c.resolved_len.ensures _ _ _ c.in_ok-n.ensures.value c.put_resolved.ensures

@@ -1,7 +1,6 @@
 -- `far_end`: the end is told from where the loop stands.
 use Prim.Native.Nat.{◌+◌, ◌-◌, ◌≤◌}
-use mathlib.Core.Path.{◌≡◌, refl, ◌∙◌}
-use native.Mathlib.Omega.{arith}
+use mathlib.Core.Path.{◌≡◌}
 use lib.ListN.{length, drop}
 use Rattle.parts.specs.Start.{reach}
 use Rattle.parts.proofs.far_end.Given as goal

@@ -1,10 +1,5 @@
 -- `last_end`: the end is told from where the loop stands.
-use borrow.Author.Rules.{rules}
-use Prim.Native.Nat.{◌+◌, ◌-◌}
-use mathlib.Core.Path.{◌≡◌, refl}
 use native.Mathlib.Omega.{arith}
-use lib.ListN.{length, drop}
-use Rattle.parts.specs.Start.{reach}
 use Rattle.parts.proofs.Reach.{reach_here, reach-on, reach-end}
 use Rattle.parts.proofs.last_end.Goals as goal
 

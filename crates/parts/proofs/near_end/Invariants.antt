@@ -1,10 +1,8 @@
 -- `near_end`: the end is told from where the loop stands, four bytes at a time.
 use Prim.Native.Nat.{◌+◌, ◌-◌, ◌≤◌}
-use mathlib.Core.Path.{◌≡◌, refl, ◌∙◌}
-use native.Mathlib.Omega.{arith}
+use mathlib.Core.Path.{◌≡◌}
 use lib.ListN.{length, drop}
 use Rattle.parts.specs.Start.{reach}
-use Rattle.parts.proofs.Reach.{reach_here, reach-next}
 use Rattle.parts.proofs.near_end.Given as goal
 
 abbrev pub invariant-loop-i : goal.invariant-loop-i

@@ -1,15 +1,12 @@
 -- `clip`: told by the length of what stands there.
-use mathlib.Core.Path.{refl}
-use Prim.Native.Nat.{◌+◌}
-use native.Mathlib.Omega.{arith}
-use Rattle.seek.proofs.Lying.{shown-none, shown-some}
+use mathlib.Core.Path.{◌∙◌}
+use Prim.Native.Nat.{◌+◌, ◌-◌, min}
+use Rattle.seek.proofs.Lying.{shown-clipped, clipped}
 use Rattle.seek.proofs.clip.Goals as goal
 
-pub returns-then-end-start : goal.returns-then-end-start
-returns-then-end-start c = λ t e. (shown-none (c.args.start + c.args.a) t (omega (arith, e)))
-
-pub returns-then-end-start-2 : goal.returns-then-end-start-2
-returns-then-end-start-2 c = λ t e. (shown-some (c.args.start + c.args.a) (c.args.start + c.args.a) c.args.end t (omega (arith, e)) refl (omega (arith, e)))
-
 pub returns : goal.returns
-returns c = λ t e. (shown-some (c.args.start + c.args.a) (c.args.start + c.args.a) (c.args.start + c.args.b) t (omega (arith, e)) refl (omega (arith, e)))
+returns c = λ t e.
+    let k = c.args.s.start in
+    let l = c.args.s.end - k in
+    c.between.ensures (k + min c.args.a l) t (rw (c.min.ensures, c.min-2.ensures, clipped k c.args.a c.args.b l t c.requires.1 e))
+    ∙ shown-clipped k c.args.a c.args.b l t c.requires.1 e

@@ -1,5 +1,5 @@
 -- `leaf`: the header's way, or that of any other segment.
-use Rattle.seek.specs.Inner.{leaf_told}
+use Rattle.seek.specs.Told.{found_told}
 use mathlib.Core.Path.{sym, ◌∙◌}
 use Rattle.text.specs.Bytes.{within}
 use Rattle.seek.proofs.Lying.{leaf_fields}
@@ -9,5 +9,5 @@ pub header_leaf-requires-clause-of_header : goal.header_leaf-requires-clause-of_
 header_leaf-requires-clause-of_header c = sym c.is_header.ensures ∙ c.if-is_header.true
 
 pub returns : goal.returns
-returns c = leaf_fields c.args.q c.args.n c.args.start (within c.args.start c.args.end c.args.m.now) (leaf_told c.leaf_behind.result)
+returns c = leaf_fields c.args.q c.args.n c.args.s.start (within c.args.s.start c.args.s.end c.args.m.now) (found_told c.leaf_behind.result)
     (sym c.is_header.ensures ∙ c.if-is_header.false) c.leaf_behind.ensures

@@ -1,5 +1,4 @@
 -- `flat_passes`: a flat field is its only repetition.
-use native.Mathlib.Omega.{arith}
 use Rattle.codes.specs.Inner.{leaves_at}
 use Rattle.fields.proofs.FlatField.{flat-reads}
 use Rattle.fields.proofs.flat.flat_passes.Goals as goal
@@ -7,12 +6,6 @@ use Rattle.fields.proofs.flat.flat_passes.Goals as goal
 pub returns-then-is_sure : goal.returns-then-is_sure
 returns-then-is_sure c = λ e.
     flat-reads c.args.q (leaves_at c.args.table.now c.args.rows) c.args.x.now c.requires.1 (c.is_sure.ensures c.if-is_sure.true)
-
-pub overflow_sub-rows : goal.overflow_sub-rows
-overflow_sub-rows c = omega (arith, c.requires.0.some)
-
-pub one_leaf_passes-requires : goal.one_leaf_passes-requires
-one_leaf_passes-requires c = record { lists = c.requires; one_row = c.if-rows-eq-ROW.true }
 
 pub returns-then-rows-eq-ROW : goal.returns-then-rows-eq-ROW
 returns-then-rows-eq-ROW c = λ e.

@@ -6,19 +6,10 @@ use lib.ListN.{length, get_or}
 use lib.Dec.{eqb, leb}
 use borrow.Author.Tests as tests
 use borrow.Author.Tests.{leb-true, eqb-false}
-use Rattle.text.proofs.Tests.{both, not-true}
+use Rattle.text.proofs.Tests.{both}
 use Rattle.profile.specs.Numbers.{sure_column}
 use Rattle.fields.proofs.Sure.{sure-reads}
 use Rattle.fields.proofs.flat.is_sure.Goals as goal
-
-pub returns-then-s-eq0 : goal.returns-then-s-eq0
-returns-then-s-eq0 c e = not-true e
-
-pub bounds-table-at : goal.bounds-table-at
-bounds-table-at c = omega (arith, c.requires.0.some, c.requires.0.inside)
-
-pub overflow_cast-result : goal.overflow_cast-result
-overflow_cast-result c = omega (arith, c.type_inv.table (c.args.rows.start + sure_column))
 
 pub returns : goal.returns
 returns c = λ e.

@@ -8,40 +8,16 @@ use lib.Dec.{eqb, ltb}
 use borrow.Author.Tests as tests
 use borrow.Author.Tests.{eqb-true, lt-ltb}
 use Rattle.text.specs.Bytes.{within}
-use Rattle.text.proofs.Tests.{not-true}
 use Rattle.text.proofs.Lists.{or-none}
 use Rattle.cursor.specs.Cursor.{IsPiece}
 use Rattle.cursor.proofs.Moving.{cursor-inside}
 use Rattle.profile.specs.Numbers.{row_size, component_column, subcomponent_column}
 use Rattle.leaves.proofs.LeafByLeaf.{Reading, nothing, reading-first, reading-reason, reading-none}
-use Rattle.fields.proofs.FlatField.{flat_measured, flat_on}
+use Rattle.fields.proofs.FlatField.{flat_measured, flat_on, is_good}
 use Rattle.fields.proofs.flat.one_leaf_passes.Goals as goal
-
-pub bounds-table-at : goal.bounds-table-at
-bounds-table-at c = omega (arith, c.requires.lists.0.some, c.requires.lists.0.inside)
-
-pub bounds-table-at-2 : goal.bounds-table-at-2
-bounds-table-at-2 c = omega (arith, c.requires.lists.0.some, c.requires.lists.0.inside)
-
-pub returns-then-table-at : goal.returns-then-table-at
-returns-then-table-at c e = not-true e
-
-pub slice_bounds-leaf-count : goal.slice_bounds-leaf-count
-slice_bounds-leaf-count c = (cursor-inside _ _ _ c.first_piece-first.ensures.0).0
-
-pub slice_bounds-leaf-start : goal.slice_bounds-leaf-start
-slice_bounds-leaf-start c = (cursor-inside _ _ _ c.first_piece-first.ensures.0).0
 
 pub slice_bounds-leaf-end : goal.slice_bounds-leaf-end
 slice_bounds-leaf-end c = (cursor-inside _ _ _ c.first_piece-first.ensures.0).1
-
-pub returns-then-leaf-eq0 : goal.returns-then-leaf-eq0
-returns-then-leaf-eq0 c e = not-true e
-
-pub plain_reason-requires : goal.plain_reason-requires
-plain_reason-requires c = let here : Reading c.args.s.now c.args.q c.args.table.now c.args.rows.start c.args.rows.end nothing c.first_piece-first.result c.args.rows.start = reading-first c.requires.lists.0 c.first_piece-first.ensures in
-    let more : row_size ≤ c.args.rows.end - c.args.rows.start = omega (arith, c.requires.one_row) in
-    record { row_inside = (omega (arith, c.requires.lists.0.some, c.requires.lists.0.inside), c.requires.lists.0.codes); known_reason = reading-reason (here) (more) }
 
 pub returns : goal.returns
 returns c e = let here : Reading c.args.s.now c.args.q c.args.table.now c.args.rows.start c.args.rows.end nothing c.first_piece-first.result c.args.rows.start = reading-first c.requires.lists.0 c.first_piece-first.ensures in
@@ -54,5 +30,11 @@ returns c e = let here : Reading c.args.s.now c.args.q c.args.table.now c.args.r
     let text = within c.first_piece-first.result.start c.first_piece-first.result.end c.args.s.now in
     let some : ltb 0 (length text) ≡ true = lt-ltb 0 (length text) (omega (arith, c.if-leaf-eq0.false)) in
     let last : c.args.rows.end - (c.args.rows.start + row_size) < row_size = omega (arith, c.requires.one_row) in
-    rw some at (reading-none (flat_on (here) (more) c.requires.lists.1 (columns).1 (moved) {r = c.plain_reason.result}
-    (c.plain_reason.ensures c.args.q (flat_measured (here) (more) c.requires.lists.1 (columns).1 (moved))) (eqb-true c.plain_reason.result 0 e)) last)
+    rw some at (reading-none (flat_on (here) (more) c.requires.lists.1 (columns).1 (moved) c.plain_reason.result
+    (c.plain_reason.ensures c.args.q (flat_measured (here) (more) c.requires.lists.1 (columns).1 (moved))) (is_good c.plain_reason.result (sym c.is_ok.ensures.value ∙ e))) last)
+
+pub plain_reason-requires-clause-known_reason : goal.plain_reason-requires-clause-known_reason
+plain_reason-requires-clause-known_reason c =
+    let here : Reading c.args.s.now c.args.q c.args.table.now c.args.rows.start c.args.rows.end nothing c.first_piece-first.result c.args.rows.start = reading-first c.requires.lists.0 c.first_piece-first.ensures in
+    let more : row_size ≤ c.args.rows.end - c.args.rows.start = omega (arith, c.requires.one_row) in
+    reading-reason here more

@@ -1,6 +1,5 @@
 -- `takes_any`: the tests that are left are of the text's length.
 use Prim.Native.Nat.{◌+◌}
-use native.Mathlib.Omega.{arith}
 use mathlib.Core.Bool.{◌&&◌}
 use lib.ListN.{get_or}
 use lib.Dec.{eqb, ltb, leb}
@@ -9,9 +8,6 @@ use Rattle.profile.specs.Numbers.{limit_column, list_column, type_column}
 use Rattle.text.proofs.Tests.{both}
 use Rattle.leaves.proofs.LeafRule.{rule-any}
 use Rattle.leaves.proofs.rule.takes_any.Goals as goal
-
-pub overflow_cast-result : goal.overflow_cast-result
-overflow_cast-result c = omega (arith, c.type_inv.table (c.args.at + limit_column))
 
 pub returns : goal.returns
 returns c = λ e q s measured p.

@@ -1,7 +1,6 @@
 -- `judge_framed`: the first listed segment is the header.
 use borrow.Author.Rules.{rules}
-use mathlib.Core.Path.{refl, ap, ◌∙◌}
-use Rattle.text.specs.Answer.{given}
+use mathlib.Core.Path.{refl, ◌∙◌}
 use Rattle.profile.specs.Numbers.{table_of}
 use Rattle.listing.specs.declared.Listed.TheVariants.{None, Segment}
 use Rattle.listing.specs.Listing.{Next}
@@ -27,4 +26,4 @@ returns-in-None c = absurd
 pub returns-in-Segment : goal.returns-in-Segment
 returns-in-Segment c = let next : Next (table_of c.args.table.now) c.args.m.now 0 c.in-Segment.start c.in-Segment.end c.in-Segment.number = next_as (table_of c.args.table.now) c.args.m.now 0 c.next_listed.result (Segment c.in-Segment.start c.in-Segment.end c.in-Segment.number) c.in-Segment.is (c.next_listed.ensures c.args.table.now c.requires.0) in
     c.verdict_at.ensures
-    ∙ ap given (headed-walk c.args.table.now c.args.m.now c.requires.0 c.requires.1 c.in-Segment.start c.in-Segment.end c.in-Segment.number (next) c.header.result c.header.ensures)
+    ∙ (headed-walk c.args.table.now c.args.m.now c.requires.0 c.requires.1 c.in-Segment.start c.in-Segment.end c.in-Segment.number (next) c.header.result c.header.ensures)
