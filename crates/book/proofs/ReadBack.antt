@@ -8,9 +8,9 @@ use denote.Ref.{Bor}
 use Rattle.text.specs.Bytes.{Text, within}
 use Rattle.text.specs.Answer.{Answer, refused, given, tell}
 use Rattle.profile.specs.Profile.{profile01}
-use Rattle.slip.specs.declared.Filed.TheVariants.{Slip}
-use Rattle.book.specs.declared.Value.{Value}
-use Rattle.book.specs.declared.Value.TheVariants as value
+use Rattle.std.proofs.Common.{Result, Ok, Err}
+use Rattle.text.specs.declared.refusal.Refusal.{Refusal}
+use Rattle.text.specs.declared.span.Span.{Span}
 use Rattle.book.specs.declared.reading.SlipValue.{SlipValue}
 use Rattle.slip.specs.Slot.{slot_size, slot_start}
 use Rattle.slip.specs.Slip.{slip_values, slip_text}
@@ -27,10 +27,10 @@ use Rattle.book.proofs.Slots.{filed, filed-length, filed-slot, filed-elsewhere}
 use Rattle.book.proofs.RoundTrip.{text-length, book-after, round_trip}
 
 -- the bytes handed back are those of the part that the answer names
-handed-step : (v : Value) (t book : Text) → t ≡ within (start_of v) (end_of v) book
+handed-step : (v : Result Span Refusal) (t book : Text) → t ≡ within (start_of v) (end_of v) book
     → tell (λ (p : Part). t) (value_of v) ≡ tell (λ (p : Part). within p.start p.end book) (value_of v)
-handed-step (value.Refused r) t book e = refl
-handed-step (value.Part a b) t book e = ap given e
+handed-step (Err r) t book e = refl
+handed-step (Ok s) t book e = ap given e
 
 handed : (book : Bor Text) (k tag : ℕ) (r : SlipValue) → ReadsSlip book k tag r → handed_back r ≡ read_bytes book.now k tag
 handed book k tag r h =
@@ -42,7 +42,7 @@ given-step : (a : Answer Text) → given tt ≡ done a → (slip : Text) × (a �
 given-step (refused r) e = absurd (let z : ◌≡◌ {A = ℕ} 0 1 = cc in omega arith)
 given-step (given slip) e = (slip, refl)
 
-module _ (m : Text) (g k : ℕ) (before after : Text) (was-filed : Files profile01 m g k before Slip after) where
+module _ (m : Text) (g k : ℕ) (before after : Text) (was-filed : Files profile01 m g k before (Ok tt) after) where
   pub slip-given : (slip : Text) × (file profile01 m g k before ≡ given slip)
   slip-given = given-step (file profile01 m g k before) was-filed.answer
 
@@ -74,7 +74,7 @@ module _ (m : Text) (g k : ℕ) (before after : Text) (was-filed : Files profile
   trip : RoundTrip profile01 m g k before
   trip = round_trip m g k before slip e
 
-module _ (m : Text) (g k : ℕ) (before after : Text) (was-filed : Files profile01 m g k before Slip after) (book : Bor Text) (left : book.now ≡ after) where
+module _ (m : Text) (g k : ℕ) (before after : Text) (was-filed : Files profile01 m g k before (Ok tt) after) (book : Bor Text) (left : book.now ≡ after) where
   -- EACH TAG of the slot gives the value that was filed
   pub filed-read : (tag : ℕ) (r : SlipValue) → ReadsSlip book k tag r → handed_back r ≡ value_of_tag tag (slip_values m g)
   filed-read tag r h =

@@ -6,6 +6,9 @@ use native.Mathlib.Omega.{arith}
 use mathlib.Core.Bool.{Bool, true, false, not, ◌&&◌}
 use mathlib.Core.List.{List, [], ◌∷◌}
 use mathlib.Core.Option.{Option, none, some}
+use Rattle.std.proofs.Common as std
+use Rattle.std.proofs.Common.{Some, None, Result, Ok, Err}
+use Rattle.std.specs.Option.{ok_or}
 use lib.ListN.{drop}
 use lib.Seq.{drop-drop}
 use lib.Dec.{eqb, ltb}
@@ -15,9 +18,8 @@ use Rattle.text.specs.Answer.{Answer, refused, given, test, first}
 use Rattle.text.specs.declared.refusal.Refusal.TheVariants.{NoSlot, BadSlip, NoTag}
 use Rattle.text.proofs.Tests.{both}
 use Rattle.slip.specs.Slot.{slot_size, slot_start, no_slot}
-use Rattle.book.specs.declared.Value.{Value}
-use Rattle.book.specs.declared.Value.TheVariants as code
-use Rattle.tags.specs.declared.Field.TheVariants as field
+use Rattle.text.specs.declared.refusal.Refusal.{Refusal}
+use Rattle.text.specs.declared.span.Span.{Span}
 use Rattle.tags.specs.Fields.{placer_tag, count_tag, head_size, count_size, most_of, expected_of, size, has_tag, Expected, expect, taken, is_slip_from}
 use Rattle.book.specs.Read.{expected, is_slip, Part, value_from, is_none, or_nothing, read_slip}
 use Rattle.book.specs.Told.{value_of}
@@ -62,31 +64,31 @@ module _ (k most : ℕ) (o : Bool) (xs : List Expected) (tag base at e : ℕ) (s
       (ap (λ (j : ℕ). value_from xs tag j (drop e s)) (omega arith))
 
 -- the tag's value where the fields before k were read: it was not among them, and is told from the rest; or it was
-pub data Seen (tag k : ℕ) (all rest : Option Part) : Value → Type 0 where
-  not_yet : all ≡ rest → Seen tag k all rest (code.Refused NoTag)
-  there : (a e : ℕ) → tag < k → all ≡ some (part a e) → Seen tag k all rest (code.Part a e)
+pub data Seen (tag k : ℕ) (all rest : Option Part) : std.Option Span → Type 0 where
+  not_yet : all ≡ rest → Seen tag k all rest None
+  there : (s : Span) → tag < k → all ≡ some (part s.start s.end) → Seen tag k all rest (Some s)
 
-seen_here : (tag k a e : ℕ) (all rest rest' : Option Part) (v : Value) → tag ≡ k → rest ≡ some (part a e) → Seen tag k all rest v
-    → Seen tag (k + 1) all rest' (code.Part a e)
-seen_here tag k a e all rest rest' v t h (not_yet w) = there a e (omega arith) (w ∙ h)
-seen_here tag k a e all rest rest' v t h (there b f l w) = absurd (omega arith)
+seen_here : (tag k : ℕ) (s : Span) (all rest rest' : Option Part) (v : std.Option Span) → tag ≡ k → rest ≡ some (part s.start s.end) → Seen tag k all rest v
+    → Seen tag (k + 1) all rest' (Some s)
+seen_here tag k s all rest rest' v t h (not_yet w) = there s (omega arith) (w ∙ h)
+seen_here tag k s all rest rest' v t h (there b l w) = absurd (omega arith)
 
-seen_past : (tag k : ℕ) (all rest rest' : Option Part) (v : Value) → rest ≡ rest' → Seen tag k all rest v → Seen tag (k + 1) all rest' v
+seen_past : (tag k : ℕ) (all rest rest' : Option Part) (v : std.Option Span) → rest ≡ rest' → Seen tag k all rest v → Seen tag (k + 1) all rest' v
 seen_past tag k all rest rest' v h (not_yet w) = not_yet (w ∙ h)
-seen_past tag k all rest rest' v h (there a e l w) = there a e (omega arith) w
+seen_past tag k all rest rest' v h (there s l w) = there s (omega arith) w
 
-seen-count : (tag k : ℕ) (all rest : Option Part) (v : Value) → k ≤ tag → Seen tag k all rest v → all ≡ rest
+seen-count : (tag k : ℕ) (all rest : Option Part) (v : std.Option Span) → k ≤ tag → Seen tag k all rest v → all ≡ rest
 seen-count tag k all rest v h (not_yet w) = w
-seen-count tag k all rest v h (there a e l w) = absurd (omega arith)
+seen-count tag k all rest v h (there s l w) = absurd (omega arith)
 
 -- what a tag's value answers
 abbrev answered : Option Part → Answer Part
 answered o = first (test NoTag (is_none o) ∷ []) (or_nothing o)
 
-seen_last : (tag k : ℕ) (all rest : Option Part) (v : Value) → rest ≡ none → Seen tag k all rest v → value_of v ≡ answered all
+seen_last : (tag k : ℕ) (all rest : Option Part) (v : std.Option Span) → rest ≡ none → Seen tag k all rest v → value_of (ok_or v NoTag) ≡ answered all
 unfolding first
 seen_last tag k all rest v h (not_yet w) = rw (w, h)
-seen_last tag k all rest v h (there a e l w) = rw w
+seen_last tag k all rest v h (there s l w) = rw w
 
 slip_answers : (s : Text) (base tag : ℕ) → is_slip s ≡ true → answered (value_from expected tag base s) ≡ read_in s base tag
 unfolding first
@@ -103,34 +105,39 @@ unfolding value_from
 no_other tag k t n = rw (ne_eqb tag count_tag n)
 
 -- where the reading of a slip stands: the fields before k are read and end at `at`, and the rest decides
-pub record ReadTo (s : Text) (base tag : ℕ) (found : Value) (at k : ℕ) : Type 0 where
+pub record ReadTo (s : Text) (base tag : ℕ) (found : std.Option Span) (at k : ℕ) : Type 0 where
   pub low : 1 ≤ k
   pub high : k ≤ count_tag
   pub near : at + longest_field ≤ longest_field * k
   pub good : is_slip_from (fields_from (count_tag - k) k) (drop at s) ≡ is_slip s
   pub seen : Seen tag k (value_from expected tag base s) (value_from (fields_from (count_tag - k) k) tag (base + at) (drop at s)) found
 
-pub read_none : (s : Text) (base tag : ℕ) → ReadTo s base tag (code.Refused NoTag) 0 1
+pub read_none : (s : Text) (base tag : ℕ) → ReadTo s base tag None 0 1
 unfolding fields_from
 read_none s base tag =
     record { low = omega arith; high = omega arith; near = omega arith; good = refl; seen = not_yet (rw (add-zero base)) }
 
-module _ (s : Text) (base tag : ℕ) (found : Value) (at k : ℕ) (c : ReadTo s base tag found at k) where
+module _ (s : Text) (base tag : ℕ) (found : std.Option Span) (at k : ℕ) (c : ReadTo s base tag found at k) where
   module _ (more : k < count_tag) where
     next : fields_from (count_tag - k) k ≡ expected_of k ∷ fields_from (count_tag - (k + 1)) (k + 1)
     unfolding fields_from
     next = let e : count_tag - k ≡ suc (count_tag - (k + 1)) = omega arith in rw e
 
-    pub read-bad : ReadsTag s at k field.Bad → refused BadSlip ≡ read_in s base tag
+    -- no field ends there: the refusal that comes of it
+    pub read-bad : (o : std.Option ℕ) (r : Refusal) → ReadsTag s at k o → ◌≡◌ {A = Result ℕ Refusal} (Err r) (ok_or o BadSlip) → refused r ≡ read_in s base tag
     unfolding first is_slip_from
-    read-bad b = let h : is_slip s ≡ false = sym c.good ∙ rw (next, b) in rw h
+    read-bad None r b e =
+        let h : is_slip s ≡ false = sym c.good ∙ rw (next, b) in
+        let z : r ≡ BadSlip = cc in
+        rw (z, h)
+    read-bad (Some n) r b e = absurd (cc)
 
-    module _ (e : ℕ) (reads : ReadsTag s at k (field.Ends e)) where
+    module _ (e : ℕ) (reads : ReadsTag s at k (Some e)) where
       good-on : is_slip_from (fields_from (count_tag - (k + 1)) (k + 1)) (drop e s) ≡ is_slip s
       unfolding is_slip_from
       good-on = rw (next, reads.0, drop-drop (taken (expected_of k) (drop at s)) at s, ← reads.1.0) at c.good
 
-      pub read_here : eqb tag k && ltb at e ≡ true → ReadTo s base tag (code.Part (base + at + head_size) (base + e)) e (k + 1)
+      pub read_here : eqb tag k && ltb at e ≡ true → ReadTo s base tag (Some (record { start = base + at + head_size; end = base + e })) e (k + 1)
       read_here w =
           record {
             low = omega (arith, c);
@@ -138,7 +145,7 @@ module _ (s : Text) (base tag : ℕ) (found : Value) (at k : ℕ) (c : ReadTo s 
             near = omega (arith, c, reads);
             good = good-on;
             seen =
-                seen_here tag k (base + at + head_size) (base + e) _ _ _ found (eqb-true tag k (both (eqb tag k) (ltb at e) w).0)
+                seen_here tag k (record { start = base + at + head_size; end = base + e }) _ _ _ found (eqb-true tag k (both (eqb tag k) (ltb at e) w).0)
                 (rw next (value-here k (most_of k) (eqb k placer_tag) (fields_from (count_tag - (k + 1)) (k + 1)) tag base at e s reads.1.0 w)) c.seen;
           }
 
@@ -178,7 +185,7 @@ module _ (s : Text) (base tag : ℕ) (found : Value) (at k : ℕ) (c : ReadTo s 
       unfolding first
       read_count e = ap answered (sym (counted e)) ∙ told
 
-      pub read_found : (tag ≡ count_tag → ⊥) → value_of found ≡ read_in s base tag
+      pub read_found : (tag ≡ count_tag → ⊥) → value_of (ok_or found NoTag) ≡ read_in s base tag
       read_found n = seen_last tag k _ _ found (rw none_left (no_other tag (base + at) (drop at s) n)) c.seen ∙ told
 
 -- the slot in the book

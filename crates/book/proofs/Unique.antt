@@ -1,13 +1,13 @@
 -- What a reading promises leaves one answer.
 use Prim.Native.Nat.{ℕ}
-use native.Mathlib.Omega.{arith}
 use mathlib.Core.Path.{◌≡◌, sym, ◌∙◌}
 use denote.Ref.{Bor}
 use Rattle.text.specs.Bytes.{Text}
 use Rattle.text.specs.Part.{SamePart}
 use Rattle.text.proofs.SamePart.{part_same}
-use Rattle.book.specs.declared.Value.{Value}
-use Rattle.book.specs.declared.Value.TheVariants as value
+use Rattle.std.proofs.Common.{Result, Ok, Err}
+use Rattle.text.specs.declared.refusal.Refusal.{Refusal}
+use Rattle.text.specs.declared.span.Span.{Span}
 use Rattle.book.specs.declared.reading.SlipValue.{SlipValue}
 use Rattle.book.specs.Read.{read_slip}
 use Rattle.book.specs.Told.{value_of, start_of, end_of}
@@ -15,15 +15,15 @@ use Rattle.book.specs.Promise.{ReadsSlip}
 use Rattle.book.proofs.ReadSlip.{part}
 
 -- an answer is what is told of it
-pub value_same : (v w : Value) → value_of v ≡ value_of w → v ≡ w
-value_same (value.Refused a) (value.Refused b) e = cc
-value_same (value.Refused a) (value.Part k l) e = absurd (let z : ◌≡◌ {A = ℕ} 0 1 = cc in omega arith)
-value_same (value.Part i j) (value.Refused b) e = absurd (let z : ◌≡◌ {A = ℕ} 0 1 = cc in omega arith)
-value_same (value.Part i j) (value.Part k l) e =
-    let p : part i j ≡ part k l = cc in
-    λ n. value.Part (p n).start (p n).end
+pub value_same : (v w : Result Span Refusal) → value_of v ≡ value_of w → v ≡ w
+value_same (Err a) (Err b) e = cc
+value_same (Err a) (Ok t) e = cc
+value_same (Ok s) (Err b) e = cc
+value_same (Ok s) (Ok t) e =
+    let p : part s.start s.end ≡ part t.start t.end = cc in
+    λ n. Ok (record { start = (p n).start; end = (p n).end })
 
-pub find_value_unique : (book : Text) (k tag : ℕ) (v w : Value) → value_of v ≡ read_slip book k tag → value_of w ≡ read_slip book k tag → v ≡ w
+pub find_value_unique : (book : Text) (k tag : ℕ) (v w : Result Span Refusal) → value_of v ≡ read_slip book k tag → value_of w ≡ read_slip book k tag → v ≡ w
 find_value_unique book k tag v w a b = value_same v w (a ∙ sym b)
 
 pub read_slip_unique : (book : Bor Text) (k tag : ℕ) (r s : SlipValue) → ReadsSlip book k tag r → ReadsSlip book k tag s

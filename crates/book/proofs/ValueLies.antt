@@ -13,8 +13,9 @@ use Rattle.text.specs.Ranges.{◌to◌, is_within}
 use Rattle.text.specs.Answer.{given, passes}
 use Rattle.text.proofs.Tests.{both, not-true as false-true}
 use Rattle.text.proofs.Answer.{passes-rest, given-passes, first-asked}
-use Rattle.book.specs.declared.Value.{Value}
-use Rattle.book.specs.declared.Value.TheVariants as code
+use Rattle.std.proofs.Common.{Result, Ok, Err}
+use Rattle.text.specs.declared.refusal.Refusal.{Refusal}
+use Rattle.text.specs.declared.span.Span.{Span}
 use Rattle.slip.specs.Slot.{slot_size, slot_start, no_slot}
 use Rattle.tags.specs.Fields.{count_tag, head_size, count_size, size, value, has_tag, Expected, is_there, taken, is_slip_from}
 use Rattle.book.specs.Read.{expected, is_slip, Part, span, value_from, is_none, or_nothing, slot, read_tests, read_slip}
@@ -79,9 +80,9 @@ slot-lies book k tag p h =
     let l = value-lies expected tag (slot_start k) s p (not-false (is_slip s) t2.0) there in
     ((l.0, (l.1.0, omega (arith, l.1.1))), omega (arith, leb-false (length book / slot_size) k t1.0))
 
-pub value-inside : (book : Text) (k tag : ℕ) (v : Value) → value_of v ≡ read_slip book k tag
+pub value-inside : (book : Text) (k tag : ℕ) (v : Result Span Refusal) → value_of v ≡ read_slip book k tag
     → (start_of v ≤ end_of v) × (end_of v ≤ length book)
-value-inside book k tag (code.Refused r) h = (omega arith, omega arith)
-value-inside book k tag (code.Part a e) h =
-    let l = slot-lies book k tag (part a e) h in
+value-inside book k tag (Err r) h = (omega arith, omega arith)
+value-inside book k tag (Ok s) h =
+    let l = slot-lies book k tag (part s.start s.end) h in
     (l.0.1.0, omega (arith, l.0.1.1, l.1))

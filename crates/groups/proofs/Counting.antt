@@ -1,51 +1,37 @@
--- Counting the OBX of a group: how many are counted when the walk stands at a segment.
-use mathlib.Core.Path.{◌≡◌}
-use Prim.Native.Nat.{ℕ, ◌+◌, ◌≤◌, ◌<◌}
+-- Counting the OBX of a group: those of its segments, up to the next OBR.
+use mathlib.Core.Path.{◌≡◌, refl, ap}
+use Prim.Native.Nat.{suc, ◌+◌}
 use native.Mathlib.Omega.{arith}
-use mathlib.Core.Bool.{Bool, true, false}
-use mathlib.Core.List.{◌∷◌}
-use lib.ListN.{length, drop}
-use Rattle.text.specs.Bytes.{Text, bytes, cr, within}
-use Rattle.parts.specs.Start.{reach}
-use Rattle.parts.proofs.Reach.{ended-on, ended-end}
-use Rattle.frame.specs.Segments.{segments, named}
+use mathlib.Core.Bool.{Bool, true, false, not}
+use mathlib.Core.List.{List, [], ◌∷◌}
+use lib.ListN.{length, take}
+use Rattle.std.specs.List.{filter, prefix_len}
+use Rattle.text.specs.Bytes.{Text, bytes, pick}
+use Rattle.frame.specs.Segments.{named}
 use Rattle.groups.specs.Observations.{observations}
 
--- so many are counted when the walk stands at a segment's start
-pub record Counting (m : Text) (from count start end : ℕ) : Type 0 where
-  pub inside : start ≤ length m
-  pub ends : end ≡ start + reach cr (drop start m)
-  pub few : count ≤ start
-  pub told : count + observations (segments (drop start m)) ≡ observations (segments (drop from m))
+abbrev pub obr : Text → Bool
+obr s = named (bytes "OBR") s
 
-pub counting_first : (m : Text) (from end : ℕ) → from ≤ length m → end ≡ from + reach cr (drop from m) → Counting m from 0 from end
-counting_first m from end h e = record { inside = h; ends = e; few = omega arith; told = omega arith }
+abbrev pub obx : Text → Bool
+obx s = named (bytes "OBX") s
 
-module _ (m : Text) (from count start end : ℕ) (w : Counting m from count start end) where
-  module _ (more : end < length m) (r : Bool) (read : r ≡ named (bytes "OBR") (within start end m)) where
-    abbrev s : Text
-    s = within start end m
+-- those before the first OBR
+abbrev pub group : List Text → List Text
+group ss = take (prefix_len (λ s. not (obr s)) ss) ss
 
-    next : segments (drop start m) ≡ s ∷ segments (drop (end + 1) m)
-    next = ended-on cr m start end w.inside w.ends more
+-- OBX among them
+counted-step : (s : Text) (ss : List Text) (r x : Bool) → obr s ≡ r → obx s ≡ x → length (filter obx (group ss)) ≡ observations ss
+    → length (filter obx (group (s ∷ ss))) ≡ pick r 0 (pick x (suc (observations ss)) (observations ss))
+counted-step s ss true x e f h = rw e
+counted-step s ss false true e f h =
+    let n : 1 + prefix_len (λ t. not (obr t)) ss ≡ suc (prefix_len (λ t. not (obr t)) ss) = omega arith in
+    rw (e, n, f) (ap suc h)
+counted-step s ss false false e f h =
+    let n : 1 + prefix_len (λ t. not (obr t)) ss ≡ suc (prefix_len (λ t. not (obr t)) ss) = omega arith in
+    rw (e, n, f) h
 
-    pub counting_stop : r ≡ true → count ≡ observations (segments (drop from m))
-    unfolding observations
-    counting_stop e = let t = rw (next, ← read, e) at w.told in omega arith
-
-    module _ (other : r ≡ false) (x : Bool) (seen : x ≡ named (bytes "OBX") s) (end' : ℕ) (e' : end' ≡ end + 1 + reach cr (drop (end + 1) m)) where
-      pub counting_more : x ≡ true → Counting m from (count + 1) (end + 1) end'
-      unfolding observations
-      counting_more e =
-          let t = rw (next, ← read, other, ← seen, e) at w.told in
-          record { inside = omega arith; ends = e'; few = omega (arith, w.few, w.ends); told = omega arith }
-
-      pub counting_on : x ≡ false → Counting m from count (end + 1) end'
-      unfolding observations
-      counting_on e =
-          let t = rw (next, ← read, other, ← seen, e) at w.told in
-          record { inside = omega arith; ends = e'; few = omega (arith, w.few, w.ends); told = t }
-
-  pub counting_all : length m ≤ end → count ≡ observations (segments (drop from m))
-  unfolding observations
-  counting_all none = let t = rw (ended-end cr m start end w.inside w.ends none) at w.told in omega arith
+pub group-counted : (ss : List Text) → length (filter obx (group ss)) ≡ observations ss
+unfolding observations
+group-counted [] = refl
+group-counted (s ∷ ss) = counted-step s ss (obr s) (obx s) refl refl (group-counted ss)

@@ -3,6 +3,5 @@ pub mod Join
 pub mod Trim
 pub mod Descent
 pub mod Reach
-pub mod Depth
 pub mod Sought
 pub mod Members

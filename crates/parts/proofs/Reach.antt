@@ -11,7 +11,7 @@ use lib.Dec.{eqb}
 use borrow.Author.Tests.{eq-eqb, ne_eqb}
 use Rattle.std.specs.List.{list_any}
 use Rattle.text.specs.Bytes.{Text, pick}
-use Rattle.text.proofs.Lists.{or-none}
+use Rattle.text.proofs.Lists.{or-none, part-rest}
 use Rattle.parts.specs.Split.{front, split, ended}
 use Rattle.parts.specs.Start.{before, reach}
 use Rattle.parts.proofs.Join.{Some, split-some}
@@ -98,6 +98,39 @@ module _ (sep : ℕ) where
   pub ended-last : (t : Text) → length t ≤ reach sep t → ended sep t ≡ []
   unfolding ended
   ended-last t h = ap drop_last (split-last t h)
+
+  -- the same told by where the first one ends
+  pub ended-first : (t : Text) (e : ℕ) → e ≡ 0 + reach sep t → e < length t
+      → ended sep t ≡ take e t ∷ ended sep (take (length t - (e + 1)) (drop (e + 1) t))
+  ended-first t e f more =
+      let k : reach sep t ≡ e = omega (arith, f) in
+      rw (part-rest (e + 1) t, add-one) (rw k at (ended-next t (omega (arith, f))))
+
+  pub ended-none : (t : Text) (e : ℕ) → e ≡ 0 + reach sep t → length t ≤ e → ended sep t ≡ []
+  ended-none t e f none = ended-last t (omega (arith, f))
+
+  -- there are no more of them than bytes
+  few_front : (b : ℕ) (c : Bool) (ps : List Text) (n : ℕ) → Some ps → length ps ≤ n → length (front c b ps) ≤ suc n
+  few_front b true ps n s h = omega arith
+  few_front b false [] n s h = absurd s
+  few_front b false (p ∷ ps) n s h = omega arith
+
+  split-few : (t : Text) → length (split sep t) ≤ suc (length t)
+  unfolding split
+  split-few [] = omega arith
+  split-few (b ∷ t) = few_front b (eqb b sep) (split sep t) (suc (length t)) (split-some sep t) (split-few t)
+
+  last_few : (p : Text) (ps : List Text) → length (drop_last (p ∷ ps)) ≤ length ps
+  last_few p [] = omega arith
+  last_few p (q ∷ ps) = omega (arith, last_few q ps)
+
+  few_ended : (ps : List Text) (n : ℕ) → Some ps → length ps ≤ suc n → length (drop_last ps) ≤ n
+  few_ended [] n s h = absurd s
+  few_ended (p ∷ ps) n s h = omega (arith, last_few p ps)
+
+  pub ended-few : (t : Text) → length (ended sep t) ≤ length t
+  unfolding ended
+  ended-few t = few_ended (split sep t) (length t) (split-some sep t) (split-few t)
 
   -- a byte further
   pub reach_here : (t : Text) (i : ℕ) → i < length t → get_or t i 0 ≡ sep → reach sep (drop i t) ≡ 0

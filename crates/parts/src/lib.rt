@@ -7,6 +7,9 @@ ghost use Rattle.parts.specs.Start.{start, reach};
 ghost use Rattle.text.specs.Bytes.{within};
 ghost use Rattle.parts.specs.Span.{span, part_text, part_start, mark_at_depth, number_at_depth, steps_from};
 
+mod each;
+
+pub use each::Ended;
 use text::{Marks, Span};
 
 // The numbers that lead from a segment's fields to a leaf, each from 1.

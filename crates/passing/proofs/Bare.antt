@@ -11,12 +11,11 @@ use Rattle.parts.specs.Start.{before}
 use Rattle.cursor.specs.Cursor.{IsPiece}
 use Rattle.cursor.proofs.Moving.{cursor}
 use Rattle.profile.specs.Numbers.{row_size, field_column, usage_column, fields_before, fields_from}
-use Rattle.codes.specs.declared.rows.Rows.{Rows}
+use Rattle.text.specs.declared.span.Span.{Span}
 use Rattle.codes.specs.Inner.{Under}
 use Rattle.listing.specs.Listing.{HasNumber}
 use Rattle.located.proofs.FieldText.{before-field}
 use Rattle.usage.proofs.SegmentFields.{Left, left-first, Ahead, ahead-number, left-on}
-use Rattle.segments.specs.Judged.{at_repetition}
 use Rattle.segments.proofs.FieldChecks.{usage-none, none_passes}
 use Rattle.segments.proofs.SegmentReading.{Reading, reading-first, text-there, reading-on, reading-none}
 use Rattle.passing.specs.Bare.{BarePasses}
@@ -38,7 +37,7 @@ pub record Bare (table : List ℕ) (k last at : ℕ) : Type 0 where
   pub left : Left table k at last
   pub reading : (q : Marks) (s : Text) → HasNumber s k → length s ≤ fields_from k → Reading table q s k last [] (cursor 1 0 0) at
 
-pub bare_first : {table : List ℕ} {k : ℕ} {r : Rows} → Under table k r → Bare table k r.end r.start
+pub bare_first : {table : List ℕ} {k : ℕ} {r : Span} → Under table k r → Bare table k r.end r.start
 bare_first u = record { left = left-first u; reading = λ q s h l. reading-first h u (piece-none q.field 1 (omega arith), refl) }
 
 module _ {table : List ℕ} {k last at e : ℕ} (w : Bare table k last at) (a : Ahead table k at last e) (optional : get_or table (at + usage_column) 0 ≡ 0) where
@@ -53,7 +52,7 @@ module _ {table : List ℕ} {k last at e : ℕ} (w : Bare table k last at) (a : 
       (piece-none q.field (number - fields_before k) (omega (arith, before-field k number (ahead-number a))), refl)
       in
       let none = none_passes (text-there r a refl moved refl (no_fields k s l)) refl (usage-none (get_or table (at + usage_column) 0) _ optional) in
-      reading-on r a refl moved (at_repetition 0 0 0) none refl
+      reading-on r a refl moved none
 
   pub bare_on : Bare table k last e
   bare_on =

@@ -9,7 +9,6 @@ ghost use Rattle.profile.specs.Order.{Sound};
 ghost use Rattle.listing.specs.Listing.{HasNumber};
 ghost use Rattle.passing.specs.Broken.{IsBroken};
 
-use checks::reasons;
 use segment::segment_passes;
 use segments::read_segment;
 use text::Marks;
@@ -19,12 +18,5 @@ pub fn is_broken(s: &[u8], q: Marks, table: &[u16], k: u16) -> bool
     requires { Sound table.now × HasNumber s.now k }
     ensures { IsBroken q (table_of table.now) s.now result }
 {
-    if segment_passes(s, q, table, k) {
-        return false;
-    }
-    let r = read_segment(s, q, table, k);
-    if r.reason != reasons::NOTHING_BROKEN {
-        return true;
-    }
-    false
+    !segment_passes(s, q, table, k) && read_segment(s, q, table, k).is_err()
 }

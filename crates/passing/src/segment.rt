@@ -3,7 +3,7 @@ ghost use Rattle.std.specs.Prelude.{◌≡◌, true, ◌≤◌};
 ghost use Rattle.profile.specs.Numbers.{no_type, table_of};
 ghost use Rattle.profile.specs.Order.{Sound};
 ghost use Rattle.listing.specs.Listing.{HasNumber};
-ghost use Rattle.segments.specs.Judged.{ReadsSegment, at_repetition};
+ghost use Rattle.segments.specs.Judged.{ReadsSegment};
 ghost use Rattle.passing.specs.Bare.{BarePasses};
 
 use codes::{next_field, rows_under};
@@ -37,40 +37,31 @@ fn all_optional(table: &[u16], k: u16) -> bool
 // Whether the segment is seen to break nothing.
 pub fn segment_passes(s: &[u8], q: Marks, table: &[u16], k: u16) -> bool
     requires { Sound table.now × HasNumber s.now k }
-    ensures { result ≡ true → ReadsSegment q (table_of table.now) s.now (at_repetition 0 0 0) }
+    ensures { result ≡ true → ReadsSegment q (table_of table.now) s.now (Ok tt) }
 {
-    let skip = fields_start(s, k);
-    let fields = &s[skip..];
-    if fields.len() == 0 {
+    let fields = &s[fields_start(s, k)..];
+    if fields.is_empty() {
         return all_optional(table, k);
     }
+    let flat = fields.len() < LONG && is_flat(q, fields);
     let rows = rows_under(table, k);
     let last = rows.end;
     let before = fields_before(k);
     let mut cursor = first_piece(fields, q.field, false);
     let mut at = rows.start;
-    let flat = is_flat(q, fields) & (fields.len() < LONG);
     while columns::ROW <= last - at {
         let end = next_field(table, at);
-        let number = table[at + columns::FIELD] as u64;
+        let number = u64::from(table[at + columns::FIELD]);
         cursor = advance(fields, q.field, false, cursor, number - before);
-        let from = cursor.start;
-        let to = cursor.end;
-        if from == to {
+        let text = &fields[cursor.start..cursor.end];
+        let passes = if text.is_empty() {
             // Most fields that are not there are optional, and this spares them the call.
-            let usage = table[at + columns::USAGE];
-            if usage != numbers::OPTIONAL {
-                if !may_be_empty(s, q, table, k, at) {
-                    return false;
-                }
-            }
+            table[at + columns::USAGE] == numbers::OPTIONAL || may_be_empty(s, q, table, k, at)
         } else {
-            if !flat {
-                return false;
-            }
-            if !text_passes(s, &fields[from..to], q, table, k, at, end) {
-                return false;
-            }
+            flat && text_passes(s, text, q, table, k, at, end)
+        };
+        if !passes {
+            return false;
         }
         at = end;
     }

@@ -7,18 +7,21 @@ use mathlib.Core.Bool.{Bool, true, false, not, ◌&&◌}
 use mathlib.Core.List.{List, [], flat_map}
 use lib.ListN.{length, get_or}
 use lib.Dec.{ltb}
-use borrow.Author.Tests.{le-ltb, not-true, not-false}
+use borrow.Author.Tests.{le-ltb}
+use Rattle.std.proofs.Common.{◌⊎◌, inl, inr, Result, Ok, Err}
 use Rattle.text.specs.Bytes.{Text, within}
 use Rattle.text.specs.declared.marks.Marks.{Marks}
 use Rattle.frame.specs.Segments.{field, unsplit}
 use Rattle.profile.specs.Table.{Rule}
 use Rattle.profile.specs.Numbers.{first_field, field_column, repetitions_column, usage_column, usage_of, table_of}
-use Rattle.codes.specs.declared.rows.Rows.{Rows}
+use Rattle.text.specs.declared.span.Span.{Span}
 use Rattle.codes.specs.Inner.{Lists, IsField, leaves_at, rule_at}
 use Rattle.codes.proofs.OneField.{field-low}
 use Rattle.fields.specs.declared.field.ReadField.{ReadField}
 use Rattle.checks.specs.Repetition.{repetitions_in}
-use Rattle.fields.specs.Judged.{filled_in, ReadsField}
+use Rattle.fields.specs.Judged.{filled_in, told_in_field, ReadsField}
+use Rattle.checks.specs.Place.{place}
+use Rattle.checks.specs.declared.reasons.Reason.TheVariants.{TooManyRepetitions, Missing}
 use Rattle.checks.specs.View.{Repetition, Field, field_seen}
 use Rattle.checks.specs.Repetition.{filled_from}
 use Rattle.checks.specs.Fault.{Verdict, accepted, first_filled, is_required, repetition_checks, field_checks, first_broken}
@@ -42,12 +45,12 @@ text-none a e x h =
 
 -- too many repetitions; missing; else that of its filled repetitions
 module _ (q : Marks) (v : Field) (vs : List Field) (n : Text) (o : ℕ) where
-  first-surplus : v.surplus ≡ true → told_at n o (at_repetition 4 v.rule.field (v.rule.repetitions + 1)) ≡ first_broken (field_checks q n o vs v)
+  first-surplus : v.surplus ≡ true → told_at n o (Err (at_repetition TooManyRepetitions v.rule.field (v.rule.repetitions + 1))) ≡ first_broken (field_checks q n o vs v)
   unfolding first_broken
   first-surplus e = rw (e, add-one)
 
   first-missing : v.surplus ≡ false → is_required v.rule.usage vs ≡ true → first_filled v ≡ false
-      → told_at n o (at_repetition 3 v.rule.field 1) ≡ first_broken (field_checks q n o vs v)
+      → told_at n o (Err (at_repetition Missing v.rule.field 1)) ≡ first_broken (field_checks q n o vs v)
   unfolding first_broken
   first-missing e m f = rw (e, m, f)
 
@@ -94,12 +97,12 @@ module _ {q : Marks} {table : List ℕ} {s : Text} {k at end : ℕ} {x : Text} (
     unfolding filled_from
     filled_none = seen-filled (table_of table) q s u x h.text cut ∙ ap (filled_in q (leaves_of_field q table s at end)) none
 
-    pub none_passes : required ≡ false → ReadsFieldAt q table s at end (at_repetition 0 0 0)
+    pub none_passes : required ≡ false → ReadsFieldAt q table s at end (Ok tt)
     unfolding field_seen first_broken flat_map
     none_passes y n o = first-inside q v (fields_seen table q s) n o few-none (rw y) accepted (rw filled_none)
 
   -- what was read of it, by the rows of its leaves, tells its first broken check
-  module _ {rows : Rows} (lists : Lists table rows (leaves_of_field q table s at end)) {a : ReadField} (by_rows : ReadsField q (leaves_at table rows) (get_or table (at + repetitions_column) 0) x a) where
+  module _ {rows : Span} (lists : Lists table rows (leaves_of_field q table s at end)) {a : ReadField} (by_rows : ReadsField q (leaves_at table rows) (get_or table (at + repetitions_column) 0) x a) where
     reads : ReadsField q (leaves_of_field q table s at end) u.repetitions x a
     reads = seen.reads q table s k at end h.numbered low x h.text rows lists a by_rows
 
@@ -110,36 +113,26 @@ module _ {q : Marks} {table : List ℕ} {s : Text} {k at end : ℕ} {x : Text} (
     filled_is = seen.filled_is q table s k at end h.numbered low x h.text rows lists a by_rows
 
     pub judged-surplus : a.surplus ≡ true
-        → ReadsFieldAt q table s at end (at_repetition 4 (get_or table (at + field_column) 0) (get_or table (at + repetitions_column) 0 + 1))
+        → ReadsFieldAt q table s at end (Err (at_repetition TooManyRepetitions (get_or table (at + field_column) 0) (get_or table (at + repetitions_column) 0 + 1)))
     unfolding field_seen
     judged-surplus y n o = first-surplus q v (fields_seen table q s) n o (sym surplus-is ∙ y)
 
-    abbrev inner : Finding
-    inner =
-        record {
-          reason = a.reason;
-          field = get_or table (at + field_column) 0;
-          repetition = a.repetition;
-          component = a.component;
-          subcomponent = a.subcomponent;
-        }
-
-    judged-inside : a.surplus ≡ false → required && not (first_filled v) ≡ false → ReadsFieldAt q table s at end inner
-    unfolding field_seen
-    judged-inside few m n o =
-        let f = u.field in
-        first-inside q v (fields_seen table q s) n o (sym surplus-is ∙ few) m (told_at n o inner)
-        (reads.first few n o f
-        ∙ ap (λ (rs : List Repetition). first_broken (flat_map (repetition_checks q n o f) rs)) (sym (seen-filled (table_of table) q s u x h.text cut)))
-
-    module _ (few : a.surplus ≡ false) {r : Bool} (is : r ≡ required) where
-      pub judged-missing : not a.filled ≡ true → r ≡ true → ReadsFieldAt q table s at end (at_repetition 3 (get_or table (at + field_column) 0) 1)
+    -- what is found inside it
+    module _ (w : Result Unit Finding) (tells : (n : Text) (o : ℕ) → told_at n o w ≡ told_in_field (place n o u.field) a.broken) where
+      judged-inside : a.surplus ≡ false → required && not (first_filled v) ≡ false → ReadsFieldAt q table s at end w
       unfolding field_seen
-      judged-missing e y n o =
-          first-missing q v (fields_seen table q s) n o (sym surplus-is ∙ few) (sym is ∙ y) (sym filled_is ∙ not-true a.filled e)
+      judged-inside few m n o =
+          let f = u.field in
+          first-inside q v (fields_seen table q s) n o (sym surplus-is ∙ few) m (told_at n o w)
+          (tells n o ∙ reads.first few n o f
+          ∙ ap (λ (rs : List Repetition). first_broken (flat_map (repetition_checks q n o f) rs)) (sym (seen-filled (table_of table) q s u x h.text cut)))
 
-      pub judged-optional : r ≡ false → ReadsFieldAt q table s at end inner
-      judged-optional y = judged-inside few (rw (← is, y))
+      -- a field that is not required, or that is filled
+      pub judged-found : a.surplus ≡ false → (required ≡ false) ⊎ (a.filled ≡ true) → ReadsFieldAt q table s at end w
+      judged-found few (inl y) = judged-inside few (rw y)
+      judged-found few (inr e) = judged-inside few (and_no required (first_filled v) (sym filled_is ∙ e))
 
-    pub judged-filled : a.surplus ≡ false → not a.filled ≡ false → ReadsFieldAt q table s at end inner
-    judged-filled few e = judged-inside few (and_no required (first_filled v) (sym filled_is ∙ not-false a.filled e))
+    pub judged-missing : a.surplus ≡ false → required ≡ true → a.filled ≡ false
+        → ReadsFieldAt q table s at end (Err (at_repetition Missing (get_or table (at + field_column) 0) 1))
+    unfolding field_seen
+    judged-missing few y e n o = first-missing q v (fields_seen table q s) n o (sym surplus-is ∙ few) y (sym filled_is ∙ e)

@@ -4,24 +4,22 @@ use Prim.Native.Nat.{ℕ, ◌+◌, ◌-◌, ◌≤◌, ◌<◌, min}
 use native.Mathlib.Omega.{arith}
 use mathlib.Core.List.{List, flat_map}
 use lib.ListN.{length, get_or}
-use borrow.Author.Tests.{eq-eqb, ne_eqb}
+use Rattle.std.specs.Prelude.{Result, Ok, Err}
 use Rattle.text.specs.Bytes.{Text, within}
 use Rattle.text.specs.declared.marks.Marks.{Marks}
 use Rattle.cursor.specs.Cursor.{IsPiece}
 use Rattle.cursor.specs.declared.Cursor.{Cursor}
 use Rattle.profile.specs.Numbers.{row_size, field_column, fields_before, fields_from, table_of}
-use Rattle.codes.specs.declared.rows.Rows.{Rows}
+use Rattle.text.specs.declared.span.Span.{Span}
 use Rattle.codes.specs.Inner.{Under, rule_at}
-use Rattle.checks.specs.Place.{Place, place}
 use Rattle.checks.specs.View.{Field, field_seen, segment_seen}
 use Rattle.checks.specs.Fault.{Verdict, field_checks, first_broken}
-use Rattle.leaves.specs.Judged.{told}
 use Rattle.leaves.proofs.Breaks.{or_else, broken-append}
 use Rattle.listing.specs.Listing.{HasNumber}
 use Rattle.located.proofs.FieldText.{before-field, field_at}
 use Rattle.usage.proofs.SegmentFields.{Left, seen_from, left-first, seen_all, Ahead, ahead-number, ahead-field, ahead-later, left-on, seen-on, seen_none}
 use Rattle.segments.specs.declared.Finding.{Finding}
-use Rattle.segments.specs.Judged.{told_at, at_repetition, ReadsFieldAt, ReadsSegment}
+use Rattle.segments.specs.Judged.{told_at, ReadsFieldAt, ReadsSegment}
 use Rattle.segments.proofs.FieldChecks.{FieldText}
 
 -- a segment's fields, and the first broken check of some of them
@@ -38,7 +36,7 @@ pub record Reading (table : List ℕ) (q : Marks) (s : Text) (k last : ℕ) (fie
   pub low : row_size ≤ last - at → cursor.number ≤ get_or table (at + field_column) 0 - fields_before k
   pub rest : (n : Text) (o : ℕ) → broken_in table q s n o (all_of table q s) ≡ broken_in table q s n o (seen_from table q s at last)
 
-pub reading-first : {table : List ℕ} {q : Marks} {s : Text} {k : ℕ} {r : Rows} {fields : Text} {cursor : Cursor} → HasNumber s k → Under table k r
+pub reading-first : {table : List ℕ} {q : Marks} {s : Text} {k : ℕ} {r : Span} {fields : Text} {cursor : Cursor} → HasNumber s k → Under table k r
     → IsPiece q.field fields cursor × (cursor.number ≡ 1) → Reading table q s k r.end fields cursor r.start
 reading-first {table} {q} {s} {k} {r} h u p =
     let l = left-first u in
@@ -50,13 +48,6 @@ reading-first {table} {q} {s} {k} {r} h u p =
       low = λ more. omega (arith, p.1, before-field k number (ahead-number (record { left = l; more = more; is = refl })));
       rest = λ n o. ap (broken_in table q s n o) (seen_all q s h u);
     }
-
--- a fault decides, and nothing broken leaves it to the rest
-fault-first : (p : Place) (m : ℕ) (v : Verdict) → (m ≡ 0 → ⊥) → or_else (told p m) v ≡ told p m
-fault-first p m v e = rw (ne_eqb m 0 e)
-
-none_first : (p : Place) (m : ℕ) (v : Verdict) → m ≡ 0 → or_else (told p m) v ≡ v
-none_first p m v e = rw (eq-eqb m 0 e)
 
 -- A FIELD IS AHEAD, and the cursor has been moved to it
 module _ {table : List ℕ} {q : Marks} {s : Text} {k last : ℕ} {fields : Text} {cursor : Cursor} {at e : ℕ} (w : Reading table q s k last fields cursor at) (a : Ahead table k at last e)
@@ -76,35 +67,32 @@ module _ {table : List ℕ} {q : Marks} {s : Text} {k last : ℕ} {fields : Text
           text = rw is (field_at s k w.numbered number (ahead-number a) q skip b c from before (rw is at moved.0) moved.1);
         }
 
-    module _ (r : Finding) (judged : ReadsFieldAt q table s at e r) where
-      abbrev place_in : Text → ℕ → Place
-      place_in n o = place n o r.field r.repetition r.component r.subcomponent
+    -- the next field's checks, then those of the rest
+    next : (r : Result Unit Finding) → ReadsFieldAt q table s at e r → (n : Text) (o : ℕ)
+        → broken_in table q s n o (all_of table q s) ≡ or_else (told_at n o r) (broken_in table q s n o (seen_from table q s e last))
+    unfolding flat_map
+    next r judged n o =
+        let cs = field_checks q n o (all_of table q s) in
+        let v = field_seen (table_of table) q s (rule_at table at e) in
+        w.rest n o
+        ∙ ap (broken_in table q s n o) (seen-on a q s)
+        ∙ broken-append (cs v) (flat_map cs (seen_from table q s e last))
+        ∙ ap (λ (x : Verdict). or_else x (broken_in table q s n o (seen_from table q s e last))) (sym (judged n o))
 
-      -- the next field's checks, then those of the rest
-      next : (n : Text) (o : ℕ) → broken_in table q s n o (all_of table q s) ≡ or_else (told_at n o r) (broken_in table q s n o (seen_from table q s e last))
-      unfolding flat_map
-      next n o =
-          let cs = field_checks q n o (all_of table q s) in
-          let v = field_seen (table_of table) q s (rule_at table at e) in
-          w.rest n o
-          ∙ ap (broken_in table q s n o) (seen-on a q s)
-          ∙ broken-append (cs v) (flat_map cs (seen_from table q s e last))
-          ∙ ap (λ (x : Verdict). or_else x (broken_in table q s n o (seen_from table q s e last))) (sym (judged n o))
+    pub reading-found : (r : Finding) → ReadsFieldAt q table s at e (Err r) → ReadsSegment q (table_of table) s (Err r)
+    reading-found r judged n o = sym (next (Err r) judged n o)
 
-      pub reading-found : (r.reason ≡ 0 → ⊥) → ReadsSegment q (table_of table) s r
-      reading-found z n o = sym (next n o ∙ fault-first (place_in n o) r.reason (broken_in table q s n o (seen_from table q s e last)) z)
-
-      pub reading-on : r.reason ≡ 0 → Reading table q s k last fields c e
-      reading-on z =
-          record {
-            numbered = w.numbered;
-            left = left-on a;
-            piece = moved.0;
-            low = λ l. omega (arith, before, moved.1, ahead-later a l);
-            rest = λ n o. next n o ∙ none_first (place_in n o) r.reason (broken_in table q s n o (seen_from table q s e last)) z;
-          }
+    pub reading-on : ReadsFieldAt q table s at e (Ok tt) → Reading table q s k last fields c e
+    reading-on judged =
+        record {
+          numbered = w.numbered;
+          left = left-on a;
+          piece = moved.0;
+          low = λ l. omega (arith, before, moved.1, ahead-later a l);
+          rest = λ n o. next (Ok tt) judged n o;
+        }
 
 pub reading-none : {table : List ℕ} {q : Marks} {s : Text} {k last : ℕ} {fields : Text} {cursor : Cursor} {at : ℕ} → Reading table q s k last fields cursor at → last - at < row_size
-    → ReadsSegment q (table_of table) s (at_repetition 0 0 0)
+    → ReadsSegment q (table_of table) s (Ok tt)
 unfolding flat_map first_broken
 reading-none {table} {q} {s} {last = last} {at = at} w l n o = sym (w.rest n o ∙ ap (broken_in table q s n o) (seen_none table at last q s l))

@@ -12,38 +12,46 @@ ghost use Rattle.listing.specs.Listing.{HasNumber};
 ghost use Rattle.usage.specs.Listed.{fields_seen};
 ghost use Rattle.segments.specs.Judged.{ReadsSegment, ReadsFieldAt, at_repetition};
 
-use checks::reasons;
-use codes::{Rows, next_field, rows_under};
+use checks::reasons::Reason;
+use codes::{next_field, rows_under};
 use cursor::{advance, first_piece};
 use fields::{flat_passes, is_flat, read_field};
 use located::{fields_before, fields_start, leaf_rows};
 use profile::{columns, numbers};
-use text::Marks;
+use text::{Marks, Span};
 use usage::is_required;
 
 // The greatest limit of a type.
 const LONGEST: usize = 4096;
 
-// The reason of a segment's first broken check, 0 where there is none, and the place of it in the segment.
+// A segment's first broken check: its reason, and its place in the segment.
 #[derive(Clone, Copy)]
 pub struct Finding {
-    pub reason: u8,
+    pub reason: Reason,
     pub field: u64,
     pub repetition: u64,
     pub component: u64,
     pub subcomponent: u64,
 }
 
-// A finding at a repetition of a field; nothing is broken where the reason is 0.
-fn at_repetition(reason: u8, field: u64, repetition: u64) -> Finding
-    ensures { result ≡ at_repetition reason field repetition }
-{
-    Finding {
-        reason,
-        field,
-        repetition,
-        component: 0,
-        subcomponent: 0,
+impl Finding {
+    fn at_repetition(reason: Reason, field: u64, repetition: u64) -> Finding
+        ensures { result ≡ at_repetition reason field repetition }
+    {
+        Finding {
+            reason,
+            field,
+            repetition,
+            component: 0,
+            subcomponent: 0,
+        }
+    }
+
+    // A finding at the segment itself.
+    pub fn of_segment(reason: Reason) -> Finding
+        ensures { result ≡ at_repetition reason 0 0 }
+    {
+        Finding::at_repetition(reason, 0, 0)
     }
 }
 
@@ -56,28 +64,29 @@ fn judge_field(
     k: u16,
     at: usize,
     end: usize,
-) -> Finding
+) -> Result<(), Finding>
     requires sound { Sound table.now × HasNumber s.now k }
     requires field { IsField table.now k at end × (text.now ≡ field q s.now (get_or table.now (at + field_column) 0)) }
     ensures { ReadsFieldAt q table.now s.now at end result }
 {
-    let number = table[at + columns::FIELD] as u64;
-    let most = table[at + columns::REPETITIONS] as u64;
+    let number = u64::from(table[at + columns::FIELD]);
+    let most = u64::from(table[at + columns::REPETITIONS]);
     let r = read_field(text, q, table, leaf_rows(s, q, table, k, at, end), most);
     if r.surplus {
-        return at_repetition(reasons::TOO_MANY_REPETITIONS, number, most + 1);
+        return Err(Finding::at_repetition(Reason::TooManyRepetitions, number, most + 1));
     }
-    if !r.filled {
-        if is_required(s, q, table, k, table[at + columns::USAGE]) {
-            return at_repetition(reasons::MISSING, number, 1);
-        }
+    if !r.filled && is_required(s, q, table, k, table[at + columns::USAGE]) {
+        return Err(Finding::at_repetition(Reason::Missing, number, 1));
     }
-    Finding {
-        reason: r.reason,
-        field: number,
-        repetition: r.repetition,
-        component: r.component,
-        subcomponent: r.subcomponent,
+    match r.broken {
+        None => Ok(()),
+        Some(b) => Err(Finding {
+            reason: b.leaf.reason,
+            field: number,
+            repetition: b.repetition,
+            component: b.leaf.component,
+            subcomponent: b.leaf.subcomponent,
+        }),
     }
 }
 
@@ -94,13 +103,9 @@ pub fn text_passes(
     requires sound { Sound table.now × HasNumber s.now k }
     requires field { IsField table.now k at end × (text.now ≡ field q s.now (get_or table.now (at + field_column) 0)) }
     requires flat { is_flat q text.now ≡ true }
-    ensures { result ≡ true → ReadsFieldAt q table.now s.now at end (at_repetition 0 0 0) }
+    ensures { result ≡ true → ReadsFieldAt q table.now s.now at end (Ok tt) }
 {
-    let mut leaves = Rows { start: at, end };
-    if numbers::NAMED_BY <= table[at + columns::TYPE] {
-        leaves = leaf_rows(s, q, table, k, at, end);
-    }
-    flat_passes(text, q, table, leaves)
+    flat_passes(text, q, table, leaf_rows(s, q, table, k, at, end))
 }
 
 // Whether a field of no bytes breaks nothing.
@@ -110,10 +115,7 @@ pub fn may_be_empty(s: &[u8], q: Marks, table: &[u16], k: u16, at: usize) -> boo
     ensures { result ≡ true → is_required (usage_of (get_or table.now (at + usage_column) 0)) (fields_seen table.now q s.now) ≡ false }
 {
     let usage = table[at + columns::USAGE];
-    if usage == numbers::OPTIONAL {
-        return true;
-    }
-    !is_required(s, q, table, k, usage)
+    usage == numbers::OPTIONAL || !is_required(s, q, table, k, usage)
 }
 
 // Whether any field is seen to break nothing. A text that is longer than every leaf may be is not looked at twice.
@@ -128,46 +130,34 @@ fn field_passes(
 ) -> bool
     requires sound { Sound table.now × HasNumber s.now k }
     requires field { IsField table.now k at end × (text.now ≡ field q s.now (get_or table.now (at + field_column) 0)) }
-    ensures { result ≡ true → ReadsFieldAt q table.now s.now at end (at_repetition 0 0 0) }
+    ensures { result ≡ true → ReadsFieldAt q table.now s.now at end (Ok tt) }
 {
-    if text.len() == 0 {
+    if text.is_empty() {
         return may_be_empty(s, q, table, k, at);
     }
-    if LONGEST < text.len() {
-        return false;
-    }
-    if !is_flat(q, text) {
-        return false;
-    }
-    text_passes(s, text, q, table, k, at, end)
+    text.len() <= LONGEST && is_flat(q, text) && text_passes(s, text, q, table, k, at, end)
 }
 
 // Reads a segment's listed fields, rising, each byte passed once on the way from field to field. Only a field that is not seen to pass is taken apart.
-pub fn read_segment(s: &[u8], q: Marks, table: &[u16], k: u16) -> Finding
+pub fn read_segment(s: &[u8], q: Marks, table: &[u16], k: u16) -> Result<(), Finding>
     requires { Sound table.now × HasNumber s.now k }
     ensures { ReadsSegment q (table_of table.now) s.now result }
 {
     let rows = rows_under(table, k);
     let last = rows.end;
-    let skip = fields_start(s, k);
-    let fields = &s[skip..];
+    let fields = &s[fields_start(s, k)..];
     let before = fields_before(k);
     let mut cursor = first_piece(fields, q.field, true);
     let mut at = rows.start;
     while columns::ROW <= last - at {
         let end = next_field(table, at);
-        let number = table[at + columns::FIELD] as u64;
+        let number = u64::from(table[at + columns::FIELD]);
         cursor = advance(fields, q.field, true, cursor, number - before);
-        let from = cursor.start;
-        let to = cursor.end;
-        let text = &fields[from..to];
+        let text = &fields[cursor.start..cursor.end];
         if !field_passes(s, text, q, table, k, at, end) {
-            let r = judge_field(s, text, q, table, k, at, end);
-            if r.reason != reasons::NOTHING_BROKEN {
-                return r;
-            }
+            judge_field(s, text, q, table, k, at, end)?;
         }
         at = end;
     }
-    at_repetition(reasons::NOTHING_BROKEN, 0, 0)
+    Ok(())
 }

@@ -5,8 +5,8 @@ use native.Mathlib.Nat.{suc-add}
 use native.Mathlib.Omega.{arith}
 use mathlib.Core.Bool.{Bool, true, false}
 use mathlib.Core.List.{[], ◌∷◌}
-use lib.ListN.{length, take, drop, set, length-drop}
-use lib.Seq.{take_all, drop-cons, lt-length-set, get_or-set_same, drop-set-lt}
+use lib.ListN.{length, drop, set}
+use lib.Seq.{drop-cons, lt-length-set, get_or-set_same, drop-set-lt}
 use lib.Dec.{ltb}
 use borrow.Author.Tests.{lt-ltb, le-ltb}
 use Rattle.text.specs.Bytes.{Text, pick, byte}
@@ -61,7 +61,3 @@ decimal-length n = digits-length 20 n []
 -- a number that is put ends within 20 bytes
 pub decimal-ends : (n : ℕ) {before : Text} {at : ℕ} {after : Text} {r : ℕ} → Puts before at (decimal n) after r → r ≤ at + 20
 decimal-ends n p = omega (arith, decimal-length n, p.ends)
-
--- the part of 20 bytes from the digits' start on
-pub digits-part : (d : Text) (r n : ℕ) → length d ≡ 20 → drop r d ≡ decimal n → take (20 - r) (drop r d) ≡ decimal n
-digits-part d r n h e = take_all (20 - r) (drop r d) (omega (arith, length-drop r d)) ∙ e

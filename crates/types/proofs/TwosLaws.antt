@@ -1,4 +1,5 @@
 -- Laws of digits and ranges read in one pass.
+use Rattle.std.proofs.Common.{None}
 use Prim.Native.Nat.{ℕ, zero, suc, ◌+◌, ◌-◌, ◌≤◌, ◌<◌}
 use mathlib.Core.Path.{◌≡◌, refl, sym, ap, ◌∙◌}
 use mathlib.Core.Bool.{Bool, true, false, ◌&&◌, ◌||◌}
@@ -7,54 +8,53 @@ use native.Mathlib.Nat.{zero-add, suc-add}
 use native.Mathlib.Numerals.{add-one}
 use native.Mathlib.Omega.{arith}
 use borrow.Author.Tests.{ne_eqb, lt-leb}
-use lib.ListN.{length, get_or, take, drop, length-drop}
+use lib.ListN.{length, get_or, take, drop, drop_of_length-le}
 use lib.Seq.{drop-cons, drop-drop}
 use lib.Dec.{eqb, leb, leb-zero, leb-suc-zero, leb-suc-suc, eqb-zero-suc, eqb-suc-suc}
 use Rattle.text.specs.Bytes.{Text, pick, digit, every}
 use Rattle.text.specs.Ranges.{Range, ◌to◌, is_within}
 use Rattle.text.proofs.Tests.{not-true as no, both, and-false}
+use Rattle.text.proofs.Lists.{part-rest}
 use Rattle.types.specs.Types.{digits, rest, begins, two, twos, clock, calendar, is_zone, is_fraction, is_dtm, is_tm}
-use Rattle.types.specs.Inner.{ranges_of, twos_length}
+use Rattle.types.specs.Inner.{BehindTwo, ranges_of, twos_length}
 use Rattle.types.proofs.TypeLaws.{digit_range}
 use Rattle.types.proofs.DayLaws.{digits-fit}
 
--- the next two members, with what follows them
-two-more : (i : ℕ) → i + 2 ≡ suc (suc i)
-two-more i = omega arith
-
-drop-two : (l : Text) (i : ℕ) → i + 2 ≤ length l → drop i l ≡ get_or l i 0 ∷ get_or l (i + 1) 0 ∷ drop (i + 2) l
-drop-two l i h = rw (drop-cons l i 0 (omega arith), drop-cons l (suc i) 0 (omega arith), add-one i, two-more i)
-
--- ranges from too few numbers; too few bytes for a two
-ranges_few : (l : Text) → length l < 2 → ranges_of l ≡ []
-unfolding ranges_of
-ranges_few [] h = refl
-ranges_few (a ∷ []) h = refl
-ranges_few (a ∷ b ∷ l) h = absurd (omega arith)
-
-length-few : (rs : List Range) (t : Text) → length t < 2 → twos_length rs t ≡ 0
+-- the first two bytes decide; too few make no two
+pub no_two_few : (r : Range) (t : Text) → length t < 2 → BehindTwo r t None
 unfolding twos_length
-length-few [] t h = refl
-length-few (r ∷ rs) [] h = refl
-length-few (r ∷ rs) (a ∷ []) h = refl
-length-few (r ∷ rs) (a ∷ b ∷ t) h = absurd (omega arith)
+no_two_few r [] h rs = refl
+no_two_few r (a ∷ []) h rs = refl
+no_two_few r (a ∷ b ∷ t) h rs = absurd (omega arith)
 
--- how many bytes are still to come: two and those after them, or none
-module _ (ranges t : Text) (i : ℕ) where
-  pub length-next : (d w : Bool) → i + 2 ≤ length ranges → i + 2 ≤ length t
-      → digit (get_or t i 0) && digit (get_or t (i + 1) 0) ≡ d
-      → is_within (get_or ranges i 0 to get_or ranges (i + 1) 0) (two (get_or t i 0) (get_or t (i + 1) 0)) ≡ w
-      → twos_length (ranges_of (drop i ranges)) (drop i t)
-      ≡ pick (d && w) (suc (suc (twos_length (ranges_of (drop (i + 2) ranges)) (drop (i + 2) t)))) 0
-  unfolding twos_length ranges_of
-  length-next d w h k e f = rw (drop-two ranges i h, drop-two t i k, e, f)
+pub no_two : (r : Range) (t : Text) (x y w : Bool) → x ≡ digit (get_or t 0 0) → y ≡ digit (get_or t 1 0)
+    → is_within r (two (get_or t 0 0) (get_or t 1 0)) ≡ w → x && y && w ≡ false → BehindTwo r t None
+unfolding twos_length
+no_two r [] x y w d e f g rs = refl
+no_two r (a ∷ []) x y w d e f g rs = refl
+no_two r (a ∷ b ∷ t) x y w d e f g rs = rw (← d, ← e, f, g) refl
 
-  pub length_no_byte : length t - i < 2 → twos_length (ranges_of (drop i ranges)) (drop i t) ≡ 0
-  length_no_byte h = length-few (ranges_of (drop i ranges)) (drop i t) (simp length-drop h)
+behind_as : (r : Range) (a b : ℕ) (t : Text) → digit a && digit b && is_within r (two a b) ≡ true → (rs : List Range) → twos_length (r ∷ rs) (a ∷ b ∷ t) ≡ suc (suc (twos_length rs t))
+unfolding twos_length
+behind_as r a b t e rs = rw e refl
 
-  pub length_no_range : length ranges - i < 2 → twos_length (ranges_of (drop i ranges)) (drop i t) ≡ 0
-  unfolding twos_length
-  length_no_range h = rw (ranges_few (drop i ranges) (simp length-drop h))
+pub one_two : (r : Range) (t : Text) (x y : Bool) (u : Text) → 2 ≤ length t → x ≡ digit (get_or t 0 0) → y ≡ digit (get_or t 1 0)
+    → x && y ≡ true → is_within r (two (get_or t 0 0) (get_or t 1 0)) ≡ true → u ≡ take (length t - 2) (drop 2 t)
+    → (length t ≡ suc (suc (length u))) × ((rs : List Range) → twos_length (r ∷ rs) t ≡ suc (suc (twos_length rs u)))
+one_two r [] x y u h d e g f k = absurd (omega arith)
+one_two r (a ∷ []) x y u h d e g f k = absurd (omega arith)
+one_two r (a ∷ b ∷ t) x y u h d e g f k = rw (k, part-rest) (refl, behind_as r a b t (rw (← d, ← e, g) f))
+
+-- the ranges passed, and those to come
+pub twos_next : (l : List (ℕ × ℕ)) (i : ℕ) (t : Text) (n : List Range → ℕ) → i < length l
+    → ((rs : List Range) → twos_length ((get_or l i (0, 0)).0 to (get_or l i (0, 0)).1 ∷ rs) t ≡ n rs)
+    → twos_length (ranges_of (drop i l)) t ≡ n (ranges_of (drop (i + 1) l))
+unfolding ranges_of
+twos_next l i t n h e = rw (drop-cons l i (0, 0) h, add-one i) (e (ranges_of (drop (suc i) l)))
+
+pub twos_end : (l : List (ℕ × ℕ)) (i : ℕ) (t : Text) → length l ≤ i → twos_length (ranges_of (drop i l)) t ≡ 0
+unfolding ranges_of twos_length
+twos_end l i t h = rw (drop_of_length-le l h) refl
 
 -- they are all bytes where every byte is a digit and all twos are within their ranges
 all-step : (a b w x y : Bool) (n l : ℕ) → x && y ≡ eqb n l → a && (b && x) && (w && y) ≡ eqb (pick (a && b && w) (suc (suc n)) 0) (suc (suc l))

@@ -1,13 +1,13 @@
 -- Laws of the digits and first bytes of the simple types.
-use Prim.Native.Nat.{ℕ, suc, ◌+◌, ◌-◌, ◌%◌, ◌≤◌, ◌<◌}
+use Prim.Native.Nat.{ℕ, suc, ◌-◌, ◌%◌, ◌≤◌}
 use mathlib.Core.Path.{◌≡◌, refl, ap, ◌∙◌}
 use mathlib.Core.Bool.{Bool, true, false, ◌&&◌}
 use mathlib.Core.List.{List, [], ◌∷◌}
-use native.Mathlib.Numerals.{add-one}
 use native.Mathlib.Omega.{arith}
+use Rattle.std.specs.List.{take_while}
+use Rattle.std.proofs.lemmas.List.Sums.{take_while-cons}
 use borrow.Author.Tests.{lt-ltb, leb-true}
-use lib.ListN.{length, get_or, take, drop, drop_of_length-le}
-use lib.Seq.{drop-cons}
+use lib.ListN.{length, get_or, take, drop}
 use lib.Dec.{eqb, leb, ltb, eqb-zero-suc, eqb-suc-suc}
 use Rattle.text.specs.Bytes.{Text, pick, digit, empty, every}
 use Rattle.types.specs.Types.{digits, rest, begins, two, twos}
@@ -25,19 +25,24 @@ unfolding digits rest
 digits-drop [] = refl
 digits-drop (b ∷ t) = drop-step b t (digits t) (rest t) (digit b) (digits-drop t)
 
--- how many digits a text still has: one more, or none
-module _ (t : Text) (i : ℕ) where
-  pub digits_more : i < length t → digit (get_or t i 0) ≡ true → length (digits (drop i t)) ≡ 1 + length (digits (drop (i + 1) t))
-  unfolding digits
-  digits_more h e = rw (drop-cons t i 0 h, e, add-one i) (omega arith)
+-- the digits are the bytes that are taken while they are digits
+taken-step : (b : ℕ) (t d : Text) (c : Bool) → digit b ≡ c → d ≡ take_while digit t → pick c (b ∷ d) [] ≡ take_while digit (b ∷ t)
+taken-step b t d true e h = rw (take_while-cons, e, h) refl
+taken-step b t d false e h = rw (take_while-cons, e) refl
 
-  pub digits_stop : i < length t → digit (get_or t i 0) ≡ false → length (digits (drop i t)) ≡ 0
-  unfolding digits
-  digits_stop h e = rw (drop-cons t i 0 h, e)
+pub digits_taken : (t : Text) → digits t ≡ take_while digit t
+unfolding digits
+digits_taken [] = refl
+digits_taken (b ∷ t) = taken-step b t (digits t) (digit b) refl (digits_taken t)
 
-  pub digits-end : length t ≤ i → length (digits (drop i t)) ≡ 0
-  unfolding digits
-  digits-end h = rw (drop_of_length-le t h)
+most-step : (b : ℕ) (t d : Text) (c : Bool) → length d ≤ length t → length (pick c (b ∷ d) []) ≤ length (b ∷ t)
+most-step b t d true h = omega arith
+most-step b t d false h = omega arith
+
+pub digits_most : (t : Text) → length (digits t) ≤ length t
+unfolding digits
+digits_most [] = omega arith
+digits_most (b ∷ t) = most-step b t (digits t) (digit b) (digits_most t)
 
 -- as many digits as bytes: each byte is a digit, and there is no rest
 all-step : (b : ℕ) (t d : Text) (c e : Bool) → eqb (length d) (length t) ≡ e → eqb (length (pick c (b ∷ d) [])) (suc (length t)) ≡ c && e

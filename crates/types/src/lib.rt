@@ -5,20 +5,22 @@ mod day;
 
 ghost use Rattle.std.specs.Prelude.{◌&&◌, ◌||◌, ◌≡◌, ◌≤◌, length};
 ghost use Rattle.types.specs.Types.{behind_point, digits, is_dtm, is_decimals, is_fraction, is_nm, is_reply_number, is_si, is_stamp, is_tm, is_unsigned, is_zone, sign};
-ghost use Rattle.types.specs.Inner.{ranges_of, twos_length};
+ghost use Rattle.text.specs.Ranges.{◌to◌};
+ghost use Rattle.types.specs.Inner.{BehindTwo, ranges_of, twos_length};
 
 pub use day::day_exists;
-use text::{is_capital_or_digit, is_digit};
+use text::{every, is_capital_or_digit, is_digit};
 
 // Low and high of month, day, hour, minute and second; those of the clock are the last three.
-const CALENDAR: [u8; 10] = [1, 12, 1, 31, 0, 23, 0, 59, 0, 59];
+const CALENDAR: [(u8, u8); 5] = [(1, 12), (1, 31), (0, 23), (0, 59), (0, 59)];
+
 // How many digits a stamp has, and the greatest length of a reply number.
 const STAMP_SIZE: usize = 14;
 
 const MOST_REPLY_NUMBER: usize = 20;
 
 // Low and high of a zone's hour and minute.
-const ZONE: [u8; 4] = [0, 14, 0, 59];
+const ZONE: [(u8, u8); 2] = [(0, 14), (0, 59)];
 
 fn is_sign(b: u8) -> bool
     ensures { result ≡ sign b }
@@ -30,33 +32,23 @@ fn is_sign(b: u8) -> bool
 fn digits_len(t: &[u8]) -> usize
     ensures { (result ≡ length (digits t.now)) × (result ≤ length t.now) }
 {
-    let mut i = 0;
-    while i < t.len() {
-        if !is_digit(t[i]) {
-            return i;
-        }
-        i += 1;
-    }
-    i
+    t.iter().take_while(|b| is_digit(**b)).count()
 }
 
 pub fn is_si(t: &[u8]) -> bool
     ensures { result ≡ is_si t.now }
 {
-    digits_len(t) == t.len()
+    every(t, |b| is_digit(b))
 }
 
 // What stands after the point that the text begins with: no bytes where it begins with none.
 fn behind_point<'a>(t: &'a [u8]) -> &'a [u8]
     ensures { result.now ≡ behind_point t.now }
 {
-    if t.len() == 0 {
-        return t;
+    match t {
+        [b'.', after @ ..] => after,
+        _ => &[],
     }
-    if t[0] != b'.' {
-        return &t[0..0];
-    }
-    &t[1..]
 }
 
 fn is_decimals(t: &[u8]) -> bool
@@ -80,34 +72,42 @@ fn is_unsigned(t: &[u8]) -> bool
 pub fn is_nm(t: &[u8]) -> bool
     ensures { result ≡ is_nm t.now }
 {
-    if t.len() == 0 {
-        return false;
+    match t {
+        [sign, after @ ..] if is_sign(*sign) => is_unsigned(after),
+        _ => is_unsigned(t),
     }
-    if is_sign(t[0]) {
-        return is_unsigned(&t[1..]);
-    }
-    is_unsigned(t)
 }
 
-// How many bytes the text begins with that are digits two by two within the ranges, which stand as low, high, low, high.
-fn twos_len(ranges: &[u8], t: &[u8]) -> usize
+// What follows the two digits that the text begins with, where they write a number from low to high; else none.
+fn behind_two<'a>(t: &'a [u8], range: (u8, u8)) -> Option<&'a [u8]>
+    ensures { BehindTwo (range.0 to range.1) t.now result }
+{
+    let [a, b, after @ ..] = t else {
+        return None;
+    };
+    if !(is_digit(*a) & is_digit(*b)) {
+        return None;
+    }
+    let n = (*a - b'0') * 10 + (*b - b'0');
+    if (range.0 <= n) & (n <= range.1) {
+        Some(after)
+    } else {
+        None
+    }
+}
+
+// How many bytes the text begins with that are digits two by two, each two within the next range.
+fn twos_len(ranges: &[(u8, u8)], t: &[u8]) -> usize
     ensures { (result ≡ twos_length (ranges_of ranges.now) t.now) × (result ≤ length t.now) }
 {
-    let mut i = 0;
-    while 2 <= ranges.len() - i {
-        if t.len() - i < 2 {
-            return i;
-        }
-        if !(is_digit(t[i]) & is_digit(t[i + 1])) {
-            return i;
-        }
-        let n = (t[i] - b'0') * 10 + (t[i + 1] - b'0');
-        if !((ranges[i] <= n) & (n <= ranges[i + 1])) {
-            return i;
-        }
-        i += 2;
+    let mut rest = t;
+    for range in ranges {
+        let Some(after) = behind_two(rest, *range) else {
+            break;
+        };
+        rest = after;
     }
-    i
+    t.len() - rest.len()
 }
 
 fn is_zone(t: &[u8]) -> bool
@@ -164,8 +164,7 @@ pub fn is_dtm(t: &[u8]) -> bool
 pub fn is_tm(t: &[u8]) -> bool
     ensures { result ≡ is_tm t.now }
 {
-    let calendar: &[u8] = &CALENDAR;
-    let n = twos_len(&calendar[4..], t);
+    let n = twos_len(&CALENDAR[2..], t);
     if n < 2 {
         return false;
     }
@@ -190,12 +189,5 @@ pub fn is_reply_number(t: &[u8]) -> bool
     if !((1 <= t.len()) & (t.len() <= MOST_REPLY_NUMBER)) {
         return false;
     }
-    let mut i = 0;
-    while i < t.len() {
-        if !is_capital_or_digit(t[i]) {
-            return false;
-        }
-        i += 1;
-    }
-    true
+    every(t, |b| is_capital_or_digit(b))
 }

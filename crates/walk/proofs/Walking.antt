@@ -8,27 +8,26 @@ use mathlib.Core.List.{List, [], ◌∷◌, map, flat_map}
 use lib.ListN.{length, get_or, take, drop, length-take, length-drop}
 use lib.Seq.{take-take, get_or-drop}
 use lib.Dec.{eqb}
-use borrow.Author.Tests.{eq-eqb, ne_eqb}
+use borrow.Author.Tests.{ne_eqb}
+use Rattle.std.specs.Prelude.{◌⊎◌, Option, None, Some, is_some, Result, Ok, Err}
+use Rattle.std.proofs.Common.{inl, inr}
 use Rattle.text.specs.Bytes.{Text, pick, some, keep, same, within}
-use Rattle.text.specs.declared.marks.Marks.{Marks}
 use Rattle.text.specs.Marks.{marks_of}
-use Rattle.text.proofs.Tests.{same_self}
+use Rattle.text.proofs.Tests.{same_self, not-true}
 use Rattle.frame.specs.Segments.{name}
 use Rattle.profile.specs.Table.{Table, may_follow, may_end}
 use Rattle.profile.specs.Numbers.{segment_names, segment_number, table_of}
-use Rattle.profile.specs.Order.{Sound}
-use Rattle.segments.specs.declared.Finding.{Finding}
+use Rattle.segments.specs.Judged.{ReadsSegment}
+use Rattle.passing.specs.Broken.{Breaks}
 use Rattle.listing.specs.declared.Listed.{Listed}
 use Rattle.walk.specs.declared.Halt.{Halt}
-use Rattle.walk.specs.declared.Onward.{Onward}
-use Rattle.walk.specs.declared.Onward.TheVariants as onward
-use Rattle.checks.specs.Place.{Place, place}
-use Rattle.checks.specs.View.{segment_seen, listed_segments}
-use Rattle.checks.specs.Fault.{Verdict, accepted, fault, Check, field_checks, first_broken, count, walk}
-use Rattle.segments.specs.Judged.{told_at, ReadsSegment}
+use Rattle.walk.specs.declared.Why.TheVariants.{OutOfPlace, MayNotEnd, FieldBroken}
+use Rattle.checks.specs.Place.{place}
+use Rattle.checks.specs.View.{Segment, segment_seen, listed_segments}
+use Rattle.checks.specs.Fault.{accepted, fault, Check, field_checks, first_broken, count, walk}
 use Rattle.listing.specs.Listing.{name_at, count_from, count_before, HasNumber, Here, Next, NextIs}
 use Rattle.walk.specs.Named.{MSH, PID, NK1, ORC, OBR, OBX, NTE, behind_patient, behind_group, may_be_last}
-use Rattle.walk.specs.Judged.{number_at, nothing_broken, out_of_place, may_not_end, field_broken, why_verdict, walk_from, Counts, WalksIf, Walks}
+use Rattle.walk.specs.Judged.{number_at, walk_from, Counts, WalksIf, Walks}
 use Rattle.walk.specs.Onward.{Behind, OnwardIs}
 use Rattle.codes.proofs.Numbered.{named-number}
 use Rattle.leaves.proofs.Breaks.{or_else, broken-append}
@@ -60,7 +59,7 @@ abbrev name_of : ℕ → Text
 name_of k = get_or segment_names (k - 1) []
 
 -- which may follow which
-abbrev follows : ℕ → ℕ → Bool
+abbrev pub follows : ℕ → ℕ → Bool
 follows k j =
     pick (eqb k MSH) (eqb j PID) (pick (eqb k PID || eqb k NK1) (behind_patient j) (pick (eqb k ORC) (eqb j OBR) (behind_group j)))
 
@@ -144,89 +143,88 @@ module _ (m : Text) (start end k : ℕ) (h : Here m start end k) where
 
 -- ---- the walk from it on
 
--- along which case of an answer it is
-pub next_as : (T : Table) (m : Text) (at : ℕ) (r w : Listed) → r ≡ w → NextIs T m at r → NextIs T m at w
-next_as T m at r w e x = subst (λ (l : Listed). NextIs T m at l) e x
-
-onward_as : (T : Table) (m : Text) (start end : ℕ) (r w : Onward) → r ≡ w → OnwardIs T m start end r → OnwardIs T m start end w
-onward_as T m start end r w e x = subst (λ (o : Onward). OnwardIs T m start end o) e x
-
-pub answered : {T : Table} {m : Text} {start end : ℕ} {h : Halt} (r : Onward) → OnwardIs T m start end r → r ≡ onward.Halt h → Walks T m start end h
-answered {T} {m} {start} {end} {h} r x e = onward_as T m start end r (onward.Halt h) e x
-
 -- by the number that its name has
 here-own : (m : Text) (start end k : ℕ) → Here m start end k → Here m start end (number_at m start end)
 here-own m start end k h = subst (λ (j : ℕ). Here m start end j) (sym h.number.0) h
 
--- at the message's end
-end-told : (b : Bool) (v : Verdict) (p : Place) → why_verdict (pick b nothing_broken may_not_end) p v ≡ pick (not b) (fault p 2) accepted
-end-told true v p = refl
-end-told false v p = refl
-
-module _ (table : List ℕ) (m : Text) (start end k : ℕ) (h : Here m start end k) (r : Finding) where
+module _ (table : List ℕ) {m : Text} {start end k : ℕ} (h : Here m start end k) where
   abbrev T : Table
   T = table_of table
 
   abbrev x : Text
   x = name (within start end m)
 
-  abbrev halt : ℕ → Halt
-  halt a = record { why = a; start = start; end = end }
+  abbrev seen : Segment
+  seen = segment_seen T (marks_of m) (within start end m)
 
   -- the checks of its fields, and what is after it
   abbrev own : ℕ → List Check
-  own o = flat_map (field_checks (marks_of m) x o (segment_seen T (marks_of m) (within start end m)).fields) (segment_seen T (marks_of m) (within start end m)).fields
+  own o = flat_map (field_checks (marks_of m) x o seen.fields) seen.fields
 
   abbrev behind : List Text → List Check
   behind ns = walk T (marks_of m) (x ∷ ns) x (map (segment_seen T (marks_of m)) (listed_segments T (drop (end + 1) m)))
 
-  module _ (q : Marks) (is : q ≡ marks_of m) (read : ReadsSegment q T (within start end m) r) where
-    own-told : (o : ℕ) → told_at x o r ≡ first_broken (own o)
-    own-told o = subst (λ (p : Marks). ReadsSegment p T (within start end m) r) is read x o
+  walk_split : (ns : List Text) (last : Text) → may_follow T last x ≡ true
+      → walk_from T m ns last start end ≡ or_else (first_broken (own (suc (count x ns)))) (first_broken (behind ns))
+  unfolding walk first_broken segment_seen
+  walk_split ns last f = rw f (broken-append (own (suc (count x ns))) (behind ns))
 
-    walk_split : (ns : List Text) (last : Text) → may_follow T last x ≡ true
-        → walk_from T m ns last start end ≡ or_else (told_at x (suc (count x ns)) r) (first_broken (behind ns))
-    unfolding walk first_broken segment_seen
-    walk_split ns last f = rw (f, own-told (suc (count x ns))) (broken-append (own (suc (count x ns))) (behind ns))
+  -- one of its own checks is broken
+  pub walks_broken : Breaks (marks_of m) T (within start end m) → Walks T m start end (Err (record { why = FieldBroken; start = start; end = end }))
+  walks_broken b =
+      record {
+        here = here-own m start end k h;
+        same = λ ns last c l. rw (counted-here m start end k h ns c, walk_split ns last l, ← b.reads x (suc (count x ns)));
+      }
 
-    -- one of its own checks is broken
-    pub walks_broken : (r.reason ≡ 0 → ⊥) → Walks T m start end (halt field_broken)
-    walks_broken f =
-        record {
-          here = here-own m start end k h;
-          same = λ ns last c l. rw (counted-here m start end k h ns c, walk_split ns last l, ← own-told (suc (count x ns)), ne_eqb r.reason 0 f);
-        }
+  module _ (passed : ReadsSegment (marks_of m) T (within start end m) (Ok tt)) where
+    walk-behind : (ns : List Text) (last : Text) → may_follow T last x ≡ true → walk_from T m ns last start end ≡ first_broken (behind ns)
+    walk-behind ns last f = walk_split ns last f ∙ rw (← passed x (suc (count x ns)))
 
-    module _ (good : r.reason ≡ 0) where
-      walk-behind : (ns : List Text) (last : Text) → may_follow T last x ≡ true → walk_from T m ns last start end ≡ first_broken (behind ns)
-      walk-behind ns last f = walk_split ns last f ∙ rw (eq-eqb r.reason 0 good)
-
-      -- it is the last one
-      pub walks_end : listed_segments T (drop (end + 1) m) ≡ [] → (a : ℕ) → a ≡ pick (may_be_last k) nothing_broken may_not_end → Walks T m start end (halt a)
+    -- it is the last one: the message may end there, or not
+    module _ (none : listed_segments T (drop (end + 1) m) ≡ []) where
+      end-walk : (ns : List Text) (last : Text) → may_follow T last x ≡ true
+          → walk_from T m ns last start end ≡ pick (not (may_be_last k)) (fault (place x (suc (count x ns)) 0 0 0 0) 2) accepted
       unfolding walk first_broken keep
-      walks_end none a e =
+      end-walk ns last f = walk-behind ns last f ∙ rw (none, same_self x, may_end_lem table (within start end m) k h.number)
+
+      walks_end : may_be_last k ≡ true → Walks T m start end (Ok tt)
+      walks_end l = record { here = tt; same = λ ns last c f. sym (end-walk ns last f ∙ rw l) }
+
+      walks_cut : may_be_last k ≡ false → Walks T m start end (Err (record { why = MayNotEnd; start = start; end = end }))
+      walks_cut l =
           record {
             here = here-own m start end k h;
-            same = λ ns last c l.
-                rw (e, counted-here m start end k h ns c, walk-behind ns last l, none, same_self x, may_end_lem table (within start end m) k h.number)
-                (end-told (may_be_last k) (first_broken (own (suc (count x ns)))) (place x (suc (count x ns)) 0 0 0 0));
+            same = λ ns last c f. rw (counted-here m start end k h ns c) (sym (end-walk ns last f ∙ rw l));
           }
 
-      -- another one is after it
-      pub walks_behind : (start' end' j : ℕ) → Next T m (end + 1) start' end' j → Behind T m start end start' end' j
-      walks_behind start' end' j next =
-          record {
-            later = omega (arith, next.low);
-            here = next.here;
-            counts = λ ns c n l. rw (← next.counts n l) (counts-on m start end k h ns c n l);
-            same = λ ns last l. walk-behind ns last l ∙ rw next.first;
-          }
+    -- another one is after it
+    walks_behind : {start' end' j : ℕ} → Next T m (end + 1) start' end' j → Behind T m start end start' end' j
+    walks_behind next =
+        record {
+          later = omega (arith, next.low);
+          here = next.here;
+          counts = λ ns c n l. rw (← next.counts n l) (counts-on m start end k h ns c n l);
+          same = λ ns last l. walk-behind ns last l ∙ rw next.first;
+        }
+
+    -- one is after it, or the message may end there
+    pub goes_to : (o : Option Listed) → NextIs T m (end + 1) o → (is_some o ≡ true) ⊎ (may_be_last k ≡ true) → OnwardIs T m start end (Ok o)
+    goes_to None none (inl e) = not-true e
+    goes_to None none (inr l) = walks_end none l
+    goes_to (Some l) next e = walks_behind next
+
+    -- none is after it, and the message may not end there
+    pub stops_at : (o : Option Listed) → NextIs T m (end + 1) o → is_some o ≡ false → may_be_last k ≡ false
+        → Walks T m start end (Err (record { why = MayNotEnd; start = start; end = end }))
+    stops_at None none e l = walks_cut none l
+    stops_at (Some n) next e l = not-true (sym e)
 
 -- ---- from it to the one after it
 
 module _ {m : Text} {start end k : ℕ} where
   -- it is out of place
-  pub out : {T : Table} → Here m start end k → WalksIf false T m start end (record { why = out_of_place; start = start; end = end })
+  pub out : {T : Table} → Here m start end k → WalksIf false T m start end (Err (record { why = OutOfPlace; start = start; end = end }))
   unfolding walk first_broken segment_seen
   out h =
       record {
@@ -234,44 +232,25 @@ module _ {m : Text} {start end k : ℕ} where
         same = λ ns last c f. rw (counted-here m start end k h ns c, f);
       }
 
-  -- it is read where it fits
-  pub fitting : {T : Table} {h : Halt} (fits : ℕ → Bool) (i : ℕ) → k ≡ i → fits i ≡ true → Walks T m start end h → WalksIf (fits k) T m start end h
-  fitting fits i e f w = rw (e, f) w
+  -- after a segment fewer bytes are left than from it on
+  pub falls : Here m start end k → length m - end < length m - start
+  falls h = omega (arith, named-long m start end k h, h.high)
 
-  -- what the reader of number i requires
-  pub asks : {table : List ℕ} (i : ℕ) → k ≡ i → Sound table × Here m start end k → Sound table × Here m start end i
-  asks i e pre = (pre.0, subst (λ (x : ℕ). Here m start end x) e pre.1)
-
-  -- and that after a segment fewer bytes are left than from it on
-  pub to_reader : {table : List ℕ} {left : ℕ} (i : ℕ) → k ≡ i → (length m - start ≡ left) × (Sound table × Here m start end k)
-      → (length m - end < left) × (Sound table × Here m start end i)
-  to_reader i e pre = (omega (arith, named-long m start end k pre.1.1, pre.1.1.high), asks i e pre.1)
-
-module _ {table : List ℕ} {m : Text} {start end k start' end' j : ℕ} (pre : Sound table × Here m start end k) (r : Onward)
-    (x : OnwardIs (table_of table) m start end r) (e : r ≡ onward.Segment start' end' j) where
-  next : Behind (table_of table) m start end start' end' j
-  next = onward_as (table_of table) m start end r (onward.Segment start' end' j) e x
-
+module _ (table : List ℕ) {m : Text} {start end k start' end' j : ℕ} (here : Here m start end k) (next : Behind (table_of table) m start end start' end' j) where
   -- from the next one on fewer bytes are left than after this one
-  pub to_next : {left : ℕ} → length m - end ≡ left → (length m - start' < left) × (Sound table × Here m start' end' j)
-  to_next l = (omega (arith, next.later, pre.1.high), (pre.0, next.here))
-
-  pub to_next_reader : {left : ℕ} (i : ℕ) → j ≡ i → length m - end ≡ left → (length m - end' < left) × (Sound table × Here m start' end' i)
-  to_next_reader i f l =
-      let n = to_next l in
-      let t = to_reader i f (refl, n.1) in
-      (omega (arith, n.0, t.0), t.1)
+  pub falls_behind : length m - start' < length m - end
+  falls_behind = omega (arith, next.later, here.high)
 
   -- the walk from the next one on is the walk
-  pub goes_on : {fits : Bool} {h : Halt} → follows k j ≡ fits → WalksIf fits (table_of table) m start' end' h → Walks (table_of table) m start end h
+  pub goes_on : {fits : Bool} {r : Result Unit Halt} → follows k j ≡ fits → WalksIf fits (table_of table) m start' end' r → Walks (table_of table) m start end r
   goes_on f w =
       record {
         here = w.here;
         same = λ ns last c l.
             w.same (name (within start end m) ∷ ns) (name (within start end m)) (next.counts ns c)
-            (may_follow_lem table (within start end m) (within start' end' m) k j pre.1.number next.here.number ∙ f)
+            (may_follow_lem table (within start end m) (within start' end' m) k j here.number next.here.number ∙ f)
             ∙ sym (next.same ns last l);
       }
 
-  pub goes_out : follows k j ≡ false → Walks (table_of table) m start end (record { why = out_of_place; start = start'; end = end' })
+  pub goes_out : follows k j ≡ false → Walks (table_of table) m start end (Err (record { why = OutOfPlace; start = start'; end = end' }))
   goes_out f = goes_on f (out next.here)

@@ -1,11 +1,11 @@
 -- Inner: no entry's promise is made of this.
 -- What only the readers' helper promises: what reading a segment leads to.
-use Rattle.std.specs.Prelude.{ℕ, ◌<◌, ◌≡◌, true, List, ◌∷◌}
+use Rattle.std.specs.Prelude.{ℕ, ◌<◌, ◌≡◌, true, List, ◌∷◌, Option, None, Some, Result, Ok, Err}
 use Rattle.text.specs.Bytes.{Text, within}
 use Rattle.frame.specs.Segments.{name}
 use Rattle.profile.specs.Table.{Table, may_follow}
-use Rattle.walk.specs.declared.Onward.{Onward}
-use Rattle.walk.specs.declared.Onward.TheVariants as onward
+use Rattle.walk.specs.declared.Halt.{Halt}
+use Rattle.listing.specs.declared.Listed.{Listed}
 use Rattle.listing.specs.Listing.{Here}
 use Rattle.walk.specs.Judged.{Counts, walk_from, Walks}
 
@@ -17,6 +17,7 @@ pub record Behind (T : Table) (m : Text) (start end start' end' k : ℕ) : Type 
   pub same : (ns : List Text) (last : Text) → may_follow T last (name (within start end m)) ≡ true
       → walk_from T m ns last start end ≡ walk_from T m (name (within start end m) ∷ ns) (name (within start end m)) start' end'
 
-abbrev pub OnwardIs : Table → Text → ℕ → ℕ → Onward → Type 0
-OnwardIs T m start end (onward.Halt h) = Walks T m start end h
-OnwardIs T m start end (onward.Segment start' end' k) = Behind T m start end start' end' k
+abbrev pub OnwardIs : Table → Text → ℕ → ℕ → Result (Option Listed) Halt → Type 0
+OnwardIs T m start end (Err h) = Walks T m start end (Err h)
+OnwardIs T m start end (Ok None) = Walks T m start end (Ok tt)
+OnwardIs T m start end (Ok (Some next)) = Behind T m start end next.start next.end next.number

@@ -3,13 +3,12 @@
 // Inner: the callers hold the table's rule, where the segment stands and that it may stand there.
 #![tactic(auto)]
 
-ghost use Rattle.std.specs.Prelude.{◌≡◌};
-ghost use Rattle.text.specs.Bytes.{pick};
+ghost use Rattle.std.specs.Prelude.{◌≡◌, ◌⊎◌};
 ghost use Rattle.profile.specs.Numbers.{table_of};
 ghost use Rattle.profile.specs.Order.{Sound};
 ghost use Rattle.listing.specs.Listing.{Here};
 ghost use Rattle.walk.specs.Named.{MSH, PID, NK1, ORC, OBR, OBX, NTE, behind_patient, behind_group, may_be_last};
-ghost use Rattle.walk.specs.Judged.{nothing_broken, may_not_end, WalksIf, Walks};
+ghost use Rattle.walk.specs.Judged.{WalksIf, Walks};
 ghost use Rattle.walk.specs.Onward.{OnwardIs};
 
 use listing::{Listed, next_listed};
@@ -19,195 +18,157 @@ use text::marks_of;
 
 // Why reading stopped at a segment. Where a check of its own fields is broken, which of them it is, and where, is found by reading the
 // segment again.
-pub const NOTHING_BROKEN: u64 = 0;
-
-pub const OUT_OF_PLACE: u64 = 1;
-
-pub const MAY_NOT_END: u64 = 2;
-
-pub const FIELD_BROKEN: u64 = 3;
+#[derive(Clone, Copy)]
+pub enum Why {
+    OutOfPlace,
+    MayNotEnd,
+    FieldBroken,
+}
 
 // Where reading stopped, and why: at the segment that stands from start up to end.
-// Why is a whole word, since each reader hands this on: a byte beside two words would be handed on piece by piece.
 #[derive(Clone, Copy)]
 pub struct Halt {
-    pub why: u64,
+    pub why: Why,
     pub start: usize,
     pub end: usize,
 }
 
-// Why reading stops where the message ends after a segment of that number.
-fn end_behind(number: u16) -> u64
-    ensures { result ≡ pick (may_be_last number) nothing_broken may_not_end }
-{
-    match number {
-        numbers::OBR | numbers::OBX | numbers::NTE => NOTHING_BROKEN,
-        _ => MAY_NOT_END,
+impl Halt {
+    fn at(why: Why, here: Listed) -> Halt
+        ensures { result ≡ record { why = why; start = here.start; end = here.end } }
+    {
+        Halt {
+            why,
+            start: here.start,
+            end: here.end,
+        }
     }
 }
 
-// What comes of reading a segment: reading stops there, or the next listed segment is to be read.
-#[derive(Clone, Copy)]
-enum Onward {
-    Halt(Halt),
-    Segment {
-        start: usize,
-        end: usize,
-        number: u16,
-    },
+// Whether the message may end after a segment of that number.
+fn may_be_last(number: u16) -> bool
+    ensures { result ≡ may_be_last number }
+{
+    matches!(number, numbers::OBR | numbers::OBX | numbers::NTE)
 }
 
-// Reads the segment that stands there and finds the next one.
-fn read_on(m: &[u8], table: &[u16], start: usize, end: usize, number: u16) -> Onward
-    requires { Sound table.now × Here m.now start end number }
-    ensures { OnwardIs (table_of table.now) m.now start end result }
+// Reads the segment that stands there and finds the next one: None where the message ends after it and may.
+fn read_on(m: &[u8], table: &[u16], here: Listed) -> Result<Option<Listed>, Halt>
+    requires { Sound table.now × Here m.now here.start here.end here.number }
+    ensures { OnwardIs (table_of table.now) m.now here.start here.end result }
 {
-    if is_broken(&m[start..end], marks_of(m), table, number) {
-        return Onward::Halt(Halt {
-            why: FIELD_BROKEN,
-            start,
-            end,
-        });
+    if is_broken(&m[here.start..here.end], marks_of(m), table, here.number) {
+        return Err(Halt::at(Why::FieldBroken, here));
     }
-    match next_listed(m, end + 1) {
-        Listed::None => Onward::Halt(Halt {
-            why: end_behind(number),
-            start,
-            end,
-        }),
-        Listed::Segment { start, end, number } => Onward::Segment { start, end, number },
+    let next = next_listed(m, here.end + 1);
+    if next.is_none() && !may_be_last(here.number) {
+        return Err(Halt::at(Why::MayNotEnd, here));
     }
+    Ok(next)
 }
 
 // An ORC, which a group follows.
 #[cycle(in_group)]
-fn order(m: &[u8], table: &[u16], start: usize, end: usize) -> Halt
-    requires { Sound table.now × Here m.now start end ORC }
-    ensures { Walks (table_of table.now) m.now start end result }
+fn order(m: &[u8], table: &[u16], here: Listed) -> Result<(), Halt>
+    requires { Sound table.now × (Here m.now here.start here.end here.number × (here.number ≡ ORC)) }
+    ensures { Walks (table_of table.now) m.now here.start here.end result }
 {
-    match read_on(m, table, start, end, numbers::ORC) {
-        Onward::Halt(h) => h,
-        Onward::Segment { start, end, number } => match number {
-            numbers::OBR => group(m, table, start, end),
-            _ => Halt {
-                why: OUT_OF_PLACE,
-                start,
-                end,
-            },
-        },
+    let Some(next) = read_on(m, table, here)? else {
+        return Ok(());
+    };
+    match next.number {
+        numbers::OBR => group(m, table, next),
+        _ => Err(Halt::at(Why::OutOfPlace, next)),
     }
 }
 
 // An OBR: after a group a group may come.
 #[cycle(in_group)]
-fn group(m: &[u8], table: &[u16], start: usize, end: usize) -> Halt
-    requires { Sound table.now × Here m.now start end OBR }
-    ensures { Walks (table_of table.now) m.now start end result }
+fn group(m: &[u8], table: &[u16], here: Listed) -> Result<(), Halt>
+    requires { Sound table.now × (Here m.now here.start here.end here.number × (here.number ≡ OBR)) }
+    ensures { Walks (table_of table.now) m.now here.start here.end result }
 {
-    match read_on(m, table, start, end, numbers::OBR) {
-        Onward::Halt(h) => h,
-        Onward::Segment { start, end, number } => behind_group(m, table, start, end, number),
-    }
+    let Some(next) = read_on(m, table, here)? else {
+        return Ok(());
+    };
+    behind_group(m, table, next)
 }
 
 // An OBX: after an observation its notes may come.
 #[cycle(in_group)]
-fn observation(m: &[u8], table: &[u16], start: usize, end: usize) -> Halt
-    requires { Sound table.now × Here m.now start end OBX }
-    ensures { Walks (table_of table.now) m.now start end result }
+fn observation(m: &[u8], table: &[u16], here: Listed) -> Result<(), Halt>
+    requires { Sound table.now × (Here m.now here.start here.end here.number × (here.number ≡ OBX)) }
+    ensures { Walks (table_of table.now) m.now here.start here.end result }
 {
-    match read_on(m, table, start, end, numbers::OBX) {
-        Onward::Halt(h) => h,
-        Onward::Segment { start, end, number } => behind_group(m, table, start, end, number),
-    }
+    let Some(next) = read_on(m, table, here)? else {
+        return Ok(());
+    };
+    behind_group(m, table, next)
 }
 
 // An NTE: after notes another observation may come.
 #[cycle(in_group)]
-fn note(m: &[u8], table: &[u16], start: usize, end: usize) -> Halt
-    requires { Sound table.now × Here m.now start end NTE }
-    ensures { Walks (table_of table.now) m.now start end result }
+fn note(m: &[u8], table: &[u16], here: Listed) -> Result<(), Halt>
+    requires { Sound table.now × (Here m.now here.start here.end here.number × (here.number ≡ NTE)) }
+    ensures { Walks (table_of table.now) m.now here.start here.end result }
 {
-    match read_on(m, table, start, end, numbers::NTE) {
-        Onward::Halt(h) => h,
-        Onward::Segment { start, end, number } => behind_group(m, table, start, end, number),
-    }
+    let Some(next) = read_on(m, table, here)? else {
+        return Ok(());
+    };
+    behind_group(m, table, next)
 }
 
 // The segment after an OBR, an OBX or an NTE: the same may follow each of them.
 #[cycle(in_group)]
-fn behind_group(m: &[u8], table: &[u16], start: usize, end: usize, number: u16) -> Halt
-    requires { Sound table.now × Here m.now start end number }
-    ensures { WalksIf (behind_group number) (table_of table.now) m.now start end result }
+fn behind_group(m: &[u8], table: &[u16], here: Listed) -> Result<(), Halt>
+    requires { Sound table.now × Here m.now here.start here.end here.number }
+    ensures { WalksIf (behind_group here.number) (table_of table.now) m.now here.start here.end result }
 {
-    match number {
-        numbers::ORC => order(m, table, start, end),
-        numbers::OBR => group(m, table, start, end),
-        numbers::OBX => observation(m, table, start, end),
-        numbers::NTE => note(m, table, start, end),
-        _ => Halt {
-            why: OUT_OF_PLACE,
-            start,
-            end,
-        },
+    match here.number {
+        numbers::ORC => order(m, table, here),
+        numbers::OBR => group(m, table, here),
+        numbers::OBX => observation(m, table, here),
+        numbers::NTE => note(m, table, here),
+        _ => Err(Halt::at(Why::OutOfPlace, here)),
     }
 }
 
-// An NK1.
+// The PID or an NK1: the same may follow each of them.
 #[cycle(before_group)]
-fn kin(m: &[u8], table: &[u16], start: usize, end: usize) -> Halt
-    requires { Sound table.now × Here m.now start end NK1 }
-    ensures { Walks (table_of table.now) m.now start end result }
+fn patient(m: &[u8], table: &[u16], here: Listed) -> Result<(), Halt>
+    requires { Sound table.now × (Here m.now here.start here.end here.number × ((here.number ≡ PID) ⊎ (here.number ≡ NK1))) }
+    ensures { Walks (table_of table.now) m.now here.start here.end result }
 {
-    match read_on(m, table, start, end, numbers::NK1) {
-        Onward::Halt(h) => h,
-        Onward::Segment { start, end, number } => behind_patient(m, table, start, end, number),
-    }
-}
-
-// The PID.
-fn patient(m: &[u8], table: &[u16], start: usize, end: usize) -> Halt
-    requires { Sound table.now × Here m.now start end PID }
-    ensures { Walks (table_of table.now) m.now start end result }
-{
-    match read_on(m, table, start, end, numbers::PID) {
-        Onward::Halt(h) => h,
-        Onward::Segment { start, end, number } => behind_patient(m, table, start, end, number),
-    }
+    let Some(next) = read_on(m, table, here)? else {
+        return Ok(());
+    };
+    behind_patient(m, table, next)
 }
 
 // The segment after the PID or an NK1.
 #[cycle(before_group)]
-fn behind_patient(m: &[u8], table: &[u16], start: usize, end: usize, number: u16) -> Halt
-    requires { Sound table.now × Here m.now start end number }
-    ensures { WalksIf (behind_patient number) (table_of table.now) m.now start end result }
+fn behind_patient(m: &[u8], table: &[u16], here: Listed) -> Result<(), Halt>
+    requires { Sound table.now × Here m.now here.start here.end here.number }
+    ensures { WalksIf (behind_patient here.number) (table_of table.now) m.now here.start here.end result }
 {
-    match number {
-        numbers::NK1 => kin(m, table, start, end),
-        numbers::ORC => order(m, table, start, end),
-        numbers::OBR => group(m, table, start, end),
-        _ => Halt {
-            why: OUT_OF_PLACE,
-            start,
-            end,
-        },
+    match here.number {
+        numbers::NK1 => patient(m, table, here),
+        numbers::ORC => order(m, table, here),
+        numbers::OBR => group(m, table, here),
+        _ => Err(Halt::at(Why::OutOfPlace, here)),
     }
 }
 
 // The header.
-pub fn header(m: &[u8], table: &[u16], start: usize, end: usize) -> Halt
-    requires { Sound table.now × Here m.now start end MSH }
-    ensures { Walks (table_of table.now) m.now start end result }
+pub fn header(m: &[u8], table: &[u16], here: Listed) -> Result<(), Halt>
+    requires { Sound table.now × (Here m.now here.start here.end here.number × (here.number ≡ MSH)) }
+    ensures { Walks (table_of table.now) m.now here.start here.end result }
 {
-    match read_on(m, table, start, end, numbers::MSH) {
-        Onward::Halt(h) => h,
-        Onward::Segment { start, end, number } => match number {
-            numbers::PID => patient(m, table, start, end),
-            _ => Halt {
-                why: OUT_OF_PLACE,
-                start,
-                end,
-            },
-        },
+    let Some(next) = read_on(m, table, here)? else {
+        return Ok(());
+    };
+    match next.number {
+        numbers::PID => patient(m, table, next),
+        _ => Err(Halt::at(Why::OutOfPlace, next)),
     }
 }

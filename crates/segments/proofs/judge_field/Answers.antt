@@ -1,44 +1,43 @@
 -- `judge_field`: too many repetitions, missing, or the first broken check of a filled one.
-use Prim.Native.Nat.{◌+◌}
-use native.Mathlib.Omega.{arith}
-use Rattle.profile.specs.Numbers.{field_column, repetitions_column}
+use Rattle.std.proofs.Common.{Ok, Err, inl, inr, sym, rules}
+use borrow.Author.Tests.{not-false}
 use Rattle.codes.proofs.OneField.{field-most}
 use Rattle.located.specs.Listed.{leaves_of_field}
 use Rattle.located.proofs.FieldLeaves.{lists_itself}
-use Rattle.segments.proofs.FieldChecks.{FieldText, judged-surplus, judged-missing, judged-optional, judged-filled}
+use Rattle.segments.proofs.FieldChecks.{judged-surplus, judged-missing, judged-found}
 use Rattle.segments.proofs.judge_field.Goals as goal
-
-pub overflow_cast-number : goal.overflow_cast-number
-overflow_cast-number c = omega (arith, c.type_inv.table (c.args.at + field_column))
-
-pub overflow_cast-most : goal.overflow_cast-most
-overflow_cast-most c = omega (arith, c.type_inv.table (c.args.at + repetitions_column))
+use Rattle.segments.proofs.judge_field.Goals.{else-not-r-via-then-not-r+else-is_required, else-not-r-via-else-not-r}
 
 pub read_field-r-requires : goal.read_field-r-requires
 read_field-r-requires c = (
-  field-most c.args.table.now c.args.k c.args.at c.args.end c.requires.field.0,
+  rw c.from-most.ensures (field-most c.args.table.now c.args.k c.args.at c.args.end c.requires.field.0),
   lists_itself c.args.table.now c.leaf_rows.result (leaves_of_field c.args.q c.args.table.now c.args.s.now c.args.at c.args.end) c.leaf_rows.ensures,
 )
 
-pub overflow_add-most-then-r : goal.overflow_add-most-then-r
-overflow_add-most-then-r c = omega (arith, c.type_inv.table (c.args.at + repetitions_column))
-
 pub returns-then-r : goal.returns-then-r
-returns-then-r c = let here : FieldText c.args.q c.args.table.now c.args.s.now c.args.k c.args.at c.args.end c.args.text.now = record { numbered = c.requires.sound.1; rows = c.requires.field.0; text = c.requires.field.1 } in
-    rw c.at_repetition.ensures
-    (judged-surplus (here) c.leaf_rows.ensures c.read_field-r.ensures c.if-r.true)
+returns-then-r c = rw (c.at_repetition.ensures, c.from-number.ensures, c.from-most.ensures)
+    (judged-surplus (record { numbered = c.requires.sound.1; rows = c.requires.field.0; text = c.requires.field.1 }) c.leaf_rows.ensures
+    (rw c.from-most.ensures at c.read_field-r.ensures) c.if-r.true)
 
 pub returns-then-is_required : goal.returns-then-is_required
-returns-then-is_required c = let here : FieldText c.args.q c.args.table.now c.args.s.now c.args.k c.args.at c.args.end c.args.text.now = record { numbered = c.requires.sound.1; rows = c.requires.field.0; text = c.requires.field.1 } in
-    rw c.at_repetition-then-is_required.ensures
-    (judged-missing (here) c.leaf_rows.ensures c.read_field-r.ensures
-    c.if-r.false c.is_required.ensures c.if-not-r.true c.if-is_required.true)
+returns-then-is_required c = rw (c.at_repetition-then-is_required.ensures, c.from-number.ensures)
+    (judged-missing (record { numbered = c.requires.sound.1; rows = c.requires.field.0; text = c.requires.field.1 }) c.leaf_rows.ensures
+    (rw c.from-most.ensures at c.read_field-r.ensures) c.if-r.false (rw c.if-is_required.true at (sym c.is_required.ensures)) (search rules))
 
-pub returns-else-is_required : goal.returns-else-is_required
-returns-else-is_required c = let here : FieldText c.args.q c.args.table.now c.args.s.now c.args.k c.args.at c.args.end c.args.text.now = record { numbered = c.requires.sound.1; rows = c.requires.field.0; text = c.requires.field.1 } in
-    judged-optional (here) c.leaf_rows.ensures c.read_field-r.ensures
-    c.if-r.false c.is_required.ensures c.if-is_required.false
+pub returns-in-None : goal.returns-in-None
+returns-in-None c =
+    judged-found (record { numbered = c.requires.sound.1; rows = c.requires.field.0; text = c.requires.field.1 }) c.leaf_rows.ensures
+    (rw c.from-most.ensures at c.read_field-r.ensures) (Ok tt) (λ n o. rw c.in-None.is) c.if-r.false
+    (elim c.else-not-r.branch [
+      | else-not-r-via-then-not-r+else-is_required w ↦ inl (rw w.if-is_required.false at (sym w.is_required.ensures))
+      | else-not-r-via-else-not-r w ↦ inr (not-false _ w.if-not-r.false)
+    ])
 
-pub returns-else-not-r : goal.returns-else-not-r
-returns-else-not-r c = let here : FieldText c.args.q c.args.table.now c.args.s.now c.args.k c.args.at c.args.end c.args.text.now = record { numbered = c.requires.sound.1; rows = c.requires.field.0; text = c.requires.field.1 } in
-    judged-filled (here) c.leaf_rows.ensures c.read_field-r.ensures c.if-r.false c.if-not-r.false
+pub returns-in-Some : goal.returns-in-Some
+returns-in-Some c =
+    judged-found (record { numbered = c.requires.sound.1; rows = c.requires.field.0; text = c.requires.field.1 }) c.leaf_rows.ensures
+    (rw c.from-most.ensures at c.read_field-r.ensures) (Err _) (λ n o. rw (c.in-Some.is, c.from-number.ensures)) c.if-r.false
+    (elim c.else-not-r.branch [
+      | else-not-r-via-then-not-r+else-is_required w ↦ inl (rw w.if-is_required.false at (sym w.is_required.ensures))
+      | else-not-r-via-else-not-r w ↦ inr (not-false _ w.if-not-r.false)
+    ])

@@ -21,7 +21,7 @@ pub returns-then-not-is_si : goal.returns-then-not-is_si
 returns-then-not-is_si c = sym (year_other c.args.t.now c.if-t-lt4.false (sym c.is_si.ensures ∙ c.if-not-is_si.true))
 
 -- where the twos end, the rest decides
-read : (t after : Text) (n : ℕ) → 4 ≤ length t → every digit (take 4 t) ≡ true → after ≡ drop 4 t → n ≡ twos_length (ranges_of (1 ∷ 12 ∷ 1 ∷ 31 ∷ 0 ∷ 23 ∷ 0 ∷ 59 ∷ 0 ∷ 59 ∷ [])) after
+read : (t after : Text) (n : ℕ) → 4 ≤ length t → every digit (take 4 t) ≡ true → after ≡ drop 4 t → n ≡ twos_length (ranges_of ((1, 12) ∷ (1, 31) ∷ (0, 23) ∷ (0, 59) ∷ (0, 59) ∷ [])) after
     → is_dtm t ≡ is_zone (drop (4 + n) t) || (eqb (4 + n) 14 && is_fraction (drop (4 + n) t))
 unfolding ranges_of
 read t after n long first e h = date_read t (4 + n) long first (ap (4 +◌) (h ∙ ap (twos_length calendar) e))
