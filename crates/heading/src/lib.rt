@@ -11,7 +11,7 @@ ghost use Rattle.reader.specs.FromField.{first_leaf};
 ghost use Rattle.heading.specs.Header.{is_unfit, or_empty, processing, reply_header};
 ghost use Rattle.heading.specs.Inner.{HeaderFrom, Opened, with_separator, hd_there, parties};
 
-use escape::{Length, resolved_len};
+use escape::resolved_len;
 use reader::{behind, field_leaf, first_leaf, first_repetition, is_processing_id};
 use text::{Marks, Writer, marks_of};
 
@@ -28,8 +28,8 @@ pub fn is_unfit(q: Marks, limit: usize, t: &[u8]) -> bool
     ensures { result ≡ is_unfit q limit t.now }
 {
     match resolved_len(q, t) {
-        Length::BadEscape => true,
-        Length::Bytes(n) => limit < n,
+        None => true,
+        Some(n) => limit < n,
     }
 }
 

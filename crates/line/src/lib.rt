@@ -12,8 +12,8 @@ ghost use Rattle.reader.specs.Told.{place_of, found_of, verdict_of};
 ghost use Rattle.line.specs.Line.{refused_line, place_words, fault_line, desk_line, text_line, look_line, as_line};
 ghost use Rattle.line.specs.Inner.{look_buffer, desk_buffer, number_size, place_size, WritesWithin};
 
-use reader::{Fault, Found, Place, Verdict, condition};
-use text::{Refusal, Writer, number, put};
+use reader::{Fault, Found, Place, condition};
+use text::{Refusal, Span, Writer, put};
 
 // The line that tells a refusal.
 pub fn refused_line(r: Refusal, out: &mut [u8]) -> usize
@@ -22,32 +22,32 @@ pub fn refused_line(r: Refusal, out: &mut [u8]) -> usize
 {
     let mut w = Writer { out, at: 0 };
     w.put(b"refused ");
-    w.put_decimal(number(r) as u64);
+    w.put_decimal(u64::from(u8::from(r)));
     w.put(b"\n");
     w.at
 }
 
-fn text_line(start: usize, end: usize, out: &mut [u8]) -> usize
+fn text_line(s: Span, out: &mut [u8]) -> usize
     requires { look_buffer ≤ length out.old }
-    ensures { Puts out.old 0 (as_line (text_line start end)) out.new result }
+    ensures { Puts out.old 0 (as_line (text_line s.start s.end)) out.new result }
 {
     let mut w = Writer { out, at: 0 };
     w.put(b"text");
-    put_number(&mut w, start as u64);
-    put_number(&mut w, end as u64);
+    put_number(&mut w, s.start as u64);
+    put_number(&mut w, s.end as u64);
     w.put(b"\n");
     w.at
 }
 
 // The line that tells what a look-up found.
-pub fn look_line(f: Found, out: &mut [u8]) -> usize
+pub fn look_line(f: Result<Found, Refusal>, out: &mut [u8]) -> usize
     requires { look_buffer ≤ length out.old }
     ensures { Puts out.old 0 (as_line (look_line (found_of f))) out.new result }
 {
     match f {
-        Found::Refused(r) => refused_line(r, out),
-        Found::Empty => put(out, 0, b"empty\n"),
-        Found::Text { start, end } => text_line(start, end, out),
+        Err(r) => refused_line(r, out),
+        Ok(Found::Empty) => put(out, 0, b"empty\n"),
+        Ok(Found::Text(s)) => text_line(s, out),
     }
 }
 
@@ -80,20 +80,20 @@ fn fault_line(f: Fault, out: &mut [u8]) -> usize
     let mut w = Writer { out, at: 0 };
     w.put(b"fault");
     put_place(&mut w, f.place);
-    put_number(&mut w, condition(f.reason) as u64);
-    put_number(&mut w, f.reason as u64);
+    put_number(&mut w, u64::from(condition(f.reason)));
+    put_number(&mut w, u64::from(f.reason));
     w.put(b"\n");
     w.at
 }
 
 // The line that tells how a message is judged.
-pub fn desk_line(v: Verdict, out: &mut [u8]) -> usize
+pub fn desk_line(v: Result<Option<Fault>, Refusal>, out: &mut [u8]) -> usize
     requires { desk_buffer ≤ length out.old }
     ensures { Puts out.old 0 (as_line (desk_line (verdict_of v))) out.new result }
 {
     match v {
-        Verdict::Refused(r) => refused_line(r, out),
-        Verdict::Accepted => put(out, 0, b"accepted\n"),
-        Verdict::Fault(f) => fault_line(f, out),
+        Err(r) => refused_line(r, out),
+        Ok(None) => put(out, 0, b"accepted\n"),
+        Ok(Some(f)) => fault_line(f, out),
     }
 }

@@ -9,26 +9,21 @@ ghost use Rattle.reader.specs.Told.{place_of};
 ghost use Rattle.report.specs.Error.{place_text};
 ghost use Rattle.report.specs.Inner.{code_of, error_of, error_text, condition_words};
 
-use reader::{Fault, Place, Verdict, condition};
+use reader::{Fault, Place, condition};
 use text::Writer;
 
 // From this condition on a message is rejected.
 const FIRST_REJECTION: u16 = 200;
 
 // MSA up to the control number.
-pub fn put_code(w: &mut Writer, v: Verdict)
-    requires { w.old.at + length (code_of v) ≤ length w.old.out.now }
-    ensures { Writes w.old (code_of v) w.new }
+pub fn put_code(w: &mut Writer, fault: Option<Fault>)
+    requires { w.old.at + length (code_of fault) ≤ length w.old.out.now }
+    ensures { Writes w.old (code_of fault) w.new }
 {
-    match v {
-        Verdict::Refused(_) => {}
-        Verdict::Accepted => w.put(b"MSA|AA|"),
-        Verdict::Fault(f) => {
-            if condition(f.reason) < FIRST_REJECTION {
-                return w.put(b"MSA|AE|");
-            }
-            w.put(b"MSA|AR|")
-        }
+    match fault {
+        None => w.put(b"MSA|AA|"),
+        Some(f) if condition(f.reason) < FIRST_REJECTION => w.put(b"MSA|AE|"),
+        Some(_) => w.put(b"MSA|AR|"),
     }
 }
 
@@ -92,13 +87,11 @@ fn put_fault(w: &mut Writer, f: Fault)
 }
 
 // An ERR for a fault, nothing for an accepted message.
-pub fn put_error(w: &mut Writer, v: Verdict)
-    requires { w.old.at + length (error_of v) ≤ length w.old.out.now }
-    ensures { Writes w.old (error_of v) w.new }
+pub fn put_error(w: &mut Writer, fault: Option<Fault>)
+    requires { w.old.at + length (error_of fault) ≤ length w.old.out.now }
+    ensures { Writes w.old (error_of fault) w.new }
 {
-    match v {
-        Verdict::Refused(_) => {}
-        Verdict::Accepted => {}
-        Verdict::Fault(f) => put_fault(w, f),
+    if let Some(f) = fault {
+        put_fault(w, f);
     }
 }

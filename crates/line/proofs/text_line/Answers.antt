@@ -8,7 +8,7 @@ use Rattle.line.proofs.text_line.Goals as goal
 
 pub returns : goal.returns
 returns c =
-    let h : Writes _ (as_line (text_line c.args.start c.args.end)) c.put-2.new.self =
-    rw (text-written c.args.start c.args.end) at
+    let h : Writes _ (as_line (text_line c.args.s.start c.args.s.end)) c.put-2.new.self =
+    rw (text-written c.args.s.start c.args.s.end) at
     (writes-both (writes-both (writes-both c.put.ensures c.put_number.ensures.writes) c.put_number-2.ensures.writes) c.put-2.ensures) in
     search rules
