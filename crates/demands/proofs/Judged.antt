@@ -4,7 +4,9 @@ use Prim.Native.Nat.{ℕ, suc}
 use mathlib.Core.Bool.{true}
 use mathlib.Core.List.{List, [], ◌∷◌, map, flat_map}
 use lib.ListN.{get_or, drop}
+use Rattle.std.proofs.Common.{Option, Some, None, Result, Ok, Err}
 use Rattle.text.specs.Bytes.{Text, keep}
+use Rattle.text.specs.declared.refusal.Refusal.{Refusal}
 use Rattle.text.specs.Answer.{Answer, refused, given}
 use Rattle.text.specs.declared.marks.Marks.{Marks}
 use Rattle.text.specs.Marks.{marks_of}
@@ -17,7 +19,7 @@ use Rattle.frame.proofs.Names.{three}
 use Rattle.profile.specs.Table.{Table, Codes, any, only, is_listed}
 use Rattle.profile.specs.Profile.{profile01}
 use Rattle.reader.specs.declared.Place as code-place
-use Rattle.reader.specs.declared.Verdict as code-verdict
+use Rattle.reader.specs.declared.Fault as code-fault
 use Rattle.reader.specs.Place.{Place, place}
 use Rattle.reader.specs.View.{Entry, Repetition, Field, Segment, segment_seen, view}
 use Rattle.reader.specs.Fault.{Check, list_checks, leaf_checks, repetition_checks, field_checks, count, walk, checks, Verdict, accepted, fault, judge}
@@ -139,15 +141,15 @@ fault-named m p n e =
     rw (← found.1.place) (append-all Named first.before (found.1.found ∷ first.after) all).1.0
 
 -- THE VERDICT
-abbrev verdict_by : Answer Verdict → code-verdict.Verdict
-verdict_by (refused r) = code-verdict.TheVariants.Refused r
-verdict_by (given accepted) = code-verdict.TheVariants.Accepted
-verdict_by (given (fault p n)) = code-verdict.TheVariants.Fault (record { place = place_by p; reason = n })
+abbrev verdict_by : Answer Verdict → Result (Option code-fault.Fault) Refusal
+verdict_by (refused r) = Err r
+verdict_by (given accepted) = Ok None
+verdict_by (given (fault p n)) = Ok (Some (record { place = place_by p; reason = n }))
 
 verdict_back : (m : Text) (a : Answer Verdict) → judge profile01 m ≡ a → verdict_of (verdict_by a) ≡ a
 verdict_back m (refused r) e = refl
 verdict_back m (given accepted) e = refl
 verdict_back m (given (fault p n)) e = ap (λ (p : Place). given (fault p n)) (place_back p (fault-named m p n e))
 
-pub judged : (m : Text) → (r : code-verdict.Verdict) × Judges profile01 m r
+pub judged : (m : Text) → (r : Result (Option code-fault.Fault) Refusal) × Judges profile01 m r
 judged m = (verdict_by (judge profile01 m), verdict_back m (judge profile01 m) refl)
