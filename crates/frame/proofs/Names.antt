@@ -1,18 +1,16 @@
--- Names and the form of a segment, byte by byte.
-use mathlib.Core.Path.{◌≡◌, refl}
+-- Names, byte by byte.
+use mathlib.Core.Path.{◌≡◌, refl, sym, ap}
 use Prim.Native.Nat.{ℕ, ◌≤◌, ◌<◌}
 use native.Mathlib.Omega.{arith}
-use mathlib.Core.Bool.{false, ◌&&◌}
+use mathlib.Core.Bool.{Bool, true, false, ◌&&◌}
 use mathlib.Core.List.{[], ◌∷◌}
 use lib.ListN.{length, get_or, take, length-take}
 use lib.Dec.{eqb}
+use borrow.Author.Tests.{eq-eqb, ne_eqb, eqb-true, eqb-false}
 use Rattle.text.specs.Bytes.{Text, same}
-use Rattle.text.specs.Marks.{marks_of}
-use Rattle.text.specs.declared.marks.Marks.{Marks}
 use Rattle.text.proofs.Tests.{same_length}
 use Rattle.text.proofs.Lists.{and-true}
-use Rattle.frame.specs.Segments.{is_name, named}
-use Rattle.frame.specs.Frame.{is_segment, header}
+use Rattle.frame.specs.Segments.{named}
 
 -- the three bytes that a name takes
 abbrev pub three : Text → Text
@@ -29,26 +27,14 @@ named-bytes a b c (x ∷ []) h = absurd (omega arith)
 named-bytes a b c (x ∷ y ∷ []) h = absurd (omega arith)
 named-bytes a b c (x ∷ y ∷ z ∷ s) h = rw (and-true (eqb z c))
 
-pub segment-short : (q : Marks) (s : Text) → length s < 3 → is_segment q s ≡ false
-segment-short q [] h = refl
-segment-short q (x ∷ []) h = refl
-segment-short q (x ∷ y ∷ []) h = refl
-segment-short q (x ∷ y ∷ z ∷ s) h = absurd (omega arith)
+-- of two texts compared it is no matter which comes first
+eqb_swap : (x y : ℕ) (b : Bool) → eqb x y ≡ b → eqb y x ≡ b
+eqb_swap x y true e = eq-eqb y x (sym (eqb-true x y e))
+eqb_swap x y false e = ne_eqb y x (λ h. eqb-false x y e (sym h))
 
-pub segment_bare : (q : Marks) (s : Text) → length s ≡ 3 → is_segment q s ≡ is_name (three s)
-segment_bare q [] h = absurd (omega arith)
-segment_bare q (x ∷ []) h = absurd (omega arith)
-segment_bare q (x ∷ y ∷ []) h = absurd (omega arith)
-segment_bare q (x ∷ y ∷ z ∷ []) h = and-true (is_name (x ∷ y ∷ z ∷ []))
-segment_bare q (x ∷ y ∷ z ∷ w ∷ s) h = absurd (omega arith)
-
-pub segment-fields : (q : Marks) (s : Text) → 3 ≤ length s → (length s ≡ 3 → ⊥) → is_segment q s ≡ is_name (three s) && eqb (get_or s 3 0) q.field
-segment-fields q [] h n = absurd (omega arith)
-segment-fields q (x ∷ []) h n = absurd (omega arith)
-segment-fields q (x ∷ y ∷ []) h n = absurd (omega arith)
-segment-fields q (x ∷ y ∷ z ∷ []) h n = absurd (n refl)
-segment-fields q (x ∷ y ∷ z ∷ w ∷ s) h n = refl
-
--- fewer than nine bytes are no header
-pub header-short : (m : Text) → length m < 9 → same (take 9 m) (header (marks_of m)) ≡ false
-header-short m h = same_length (take 9 m) (header (marks_of m)) (λ e. omega (arith, e, length-take 9 m))
+pub same_swap : (s t : Text) → same s t ≡ same t s
+unfolding same
+same_swap [] [] = refl
+same_swap [] (y ∷ t) = refl
+same_swap (x ∷ s) [] = refl
+same_swap (x ∷ s) (y ∷ t) = rw (eqb_swap x y (eqb x y) refl) (ap (λ (b : Bool). eqb x y && b) (same_swap s t))

@@ -1,4 +1,4 @@
--- What the walk over the segments keeps: the three tests, told from where it stands.
+-- What the walk over the segments keeps: the three tests, told from the segments that are left.
 use mathlib.Core.Path.{◌≡◌, refl, sym, ap, ◌∙◌}
 use Prim.Native.Nat.{ℕ, ◌+◌, ◌≤◌, ◌<◌}
 use native.Mathlib.Omega.{arith}
@@ -7,39 +7,26 @@ use mathlib.Core.List.{List, [], ◌∷◌}
 use lib.ListN.{length, drop}
 use lib.Dec.{ltb}
 use borrow.Author.Tests.{lt-ltb, le-ltb}
-use Rattle.text.specs.Bytes.{Text, pick, cr, every, some, within}
+use Rattle.text.specs.Bytes.{Text, pick, every, some}
 use Rattle.text.specs.Answer.{Answer, refused, given, first}
 use Rattle.text.specs.Marks.{marks_of}
 use Rattle.text.specs.declared.marks.Marks.{Marks}
 use Rattle.text.specs.declared.refusal.Refusal.TheVariants.{BadSegment, SecondHeader, TooMany}
 use Rattle.text.proofs.Lists.{or_assoc, or-false}
-use Rattle.parts.specs.Start.{reach}
-use Rattle.parts.proofs.Reach.{ended-on, ended-end}
 use Rattle.frame.specs.Segments.{segments, is_header}
 use Rattle.frame.specs.Frame.{is_segment, segment_tests}
 
--- the segments from a place on, without the first of the message
+-- the segments that are left, without the first of the message
 abbrev pub later : ℕ → List Text → List Text
-later start ss = pick (ltb 0 start) ss (drop 1 ss)
+later count ss = pick (ltb 0 count) ss (drop 1 ss)
 
-pub record Walked (m : Text) (second : Bool) (count start end : ℕ) : Type 0 where
-  pub inside : start ≤ length m
-  pub ends : end ≡ start + reach cr (drop start m)
-  pub few : count ≤ start
-  pub formed : every (is_segment (marks_of m)) (segments m) ≡ every (is_segment (marks_of m)) (segments (drop start m))
-  pub headers : some is_header (drop 1 (segments m)) ≡ second || some is_header (later start (segments (drop start m)))
-  pub counted : length (segments m) ≡ count + length (segments (drop start m))
+pub record Walked (m : Text) (second : Bool) (count : ℕ) (left : List Text) : Type 0 where
+  pub formed : every (is_segment (marks_of m)) (segments m) ≡ every (is_segment (marks_of m)) left
+  pub headers : some is_header (drop 1 (segments m)) ≡ second || some is_header (later count left)
+  pub counted : length (segments m) ≡ count + length left
 
-pub walked_first : (m : Text) (end : ℕ) → end ≡ 0 + reach cr (drop 0 m) → Walked m false 0 0 end
-walked_first m end e =
-    record {
-      inside = omega arith;
-      ends = e;
-      few = omega arith;
-      formed = refl;
-      headers = refl;
-      counted = omega arith;
-    }
+pub walked_first : (m : Text) → Walked m false 0 (segments m)
+walked_first m = record { formed = refl; headers = refl; counted = omega arith }
 
 headers-step : (second b : Bool) (s : Text) (ss : List Text)
     → second || some is_header (pick b (s ∷ ss) (drop 1 (s ∷ ss))) ≡ (second || (b && is_header s)) || some is_header ss
@@ -47,14 +34,8 @@ unfolding some
 headers-step second true s ss = sym (or_assoc second (is_header s) (some is_header ss))
 headers-step second false s ss = ap (λ (b : Bool). b || some is_header ss) (sym (or-false second))
 
-module _ (m : Text) (second : Bool) (count start end : ℕ) (w : Walked m second count start end) where
-  module _ (more : end < length m) where
-    abbrev s : Text
-    s = within start end m
-
-    next : segments (drop start m) ≡ s ∷ segments (drop (end + 1) m)
-    next = ended-on cr m start end w.inside w.ends more
-
+module _ (m : Text) (second : Bool) (count : ℕ) (left : List Text) (w : Walked m second count left) where
+  module _ (s : Text) (ss : List Text) (next : left ≡ s ∷ ss) where
     -- what `is_segment` says of it
     tested : (q : Marks) (r b : Bool) → q ≡ marks_of m → r ≡ is_segment q s → r ≡ b → is_segment (marks_of m) s ≡ b
     tested q r b e f g = rw (← e) (sym f ∙ g)
@@ -63,24 +44,17 @@ module _ (m : Text) (second : Bool) (count start end : ℕ) (w : Walked m second
     unfolding first every
     walked_bad q r e f g = rw (w.formed, next, tested q r false e f g)
 
-    pub walked_on : (q : Marks) (r h : Bool) (end' : ℕ) → q ≡ marks_of m → r ≡ is_segment q s → r ≡ true
-        → h ≡ is_header s → end' ≡ end + 1 + reach cr (drop (end + 1) m)
-        → Walked m (second || (ltb 0 start && h)) (count + 1) (end + 1) end'
+    pub walked_on : (q : Marks) (r h : Bool) → q ≡ marks_of m → r ≡ is_segment q s → r ≡ true → h ≡ is_header s
+        → Walked m (second || (ltb 0 count && h)) (count + 1) ss
     unfolding every
-    walked_on q r h end' e f g k e' =
+    walked_on q r h e f g k =
         record {
-          inside = omega arith;
-          ends = e';
-          few = omega (arith, w.few, w.ends);
           formed = w.formed ∙ rw (next, tested q r true e f g);
-          headers = w.headers ∙ rw (k, next, lt-ltb 0 (end + 1) (omega arith)) (headers-step second (ltb 0 start) s (segments (drop (end + 1) m)));
+          headers = w.headers ∙ rw (k, next, lt-ltb 0 (count + 1) (omega arith)) (headers-step second (ltb 0 count) s ss);
           counted = omega (arith, w.counted, ap length next);
         }
 
-  module _ (none : length m ≤ end) where
-    last : segments (drop start m) ≡ []
-    last = ended-end cr m start end w.inside w.ends none
-
+  module _ (last : left ≡ []) where
     formed-all : every (is_segment (marks_of m)) (segments m) ≡ true
     unfolding every
     formed-all = w.formed ∙ rw last
@@ -91,7 +65,7 @@ module _ (m : Text) (second : Bool) (count start end : ℕ) (w : Walked m second
 
     headers-all : some is_header (drop 1 (segments m)) ≡ second
     unfolding some
-    headers-all = w.headers ∙ rw (last, later-none (ltb 0 start)) (or-false second)
+    headers-all = w.headers ∙ rw (last, later-none (ltb 0 count)) (or-false second)
 
     count-all : length (segments m) ≡ count
     count-all = omega (arith, w.counted, ap length last)

@@ -9,8 +9,8 @@ ghost use Rattle.frame.specs.Told.{framing_of};
 
 use crate::limits;
 use crate::segment::{is_header, is_segment};
-use parts::far_end;
-use text::{Refusal, every, is_printable, is_same, marks_of};
+use parts::Ended;
+use text::{Refusal, every, is_printable, marks_of};
 
 fn all_allowed(m: &[u8]) -> bool
     ensures { result ≡ every allowed m.now }
@@ -21,10 +21,7 @@ fn all_allowed(m: &[u8]) -> bool
 fn has_header(m: &[u8]) -> bool
     ensures { result ≡ same (take header_size m.now) (header (marks_of m.now)) }
 {
-    if m.len() < limits::HEADER_SIZE {
-        return false;
-    }
-    is_same(&m[0..limits::HEADER_SIZE], b"MSH|^~\\&|")
+    m.starts_with(b"MSH|^~\\&|")
 }
 
 // BAD SEGMENT, SECOND HEADER, TOO MANY: one walk, since any bad segment comes before the other two.
@@ -34,17 +31,16 @@ fn check_segments(m: &[u8]) -> Result<(), Refusal>
     let q = marks_of(m);
     let mut second = false;
     let mut count: usize = 0;
-    let mut start = 0;
-    let mut end = far_end(m, 0, b'\r');
-    while end < m.len() {
-        let s = &m[start..end];
+    let segments = Ended {
+        rest: m,
+        sep: b'\r',
+    };
+    for s in segments {
         if !is_segment(q, s) {
             return Err(Refusal::BadSegment);
         }
-        second = second | ((0 < start) & is_header(s));
+        second |= (0 < count) & is_header(s);
         count += 1;
-        start = end + 1;
-        end = far_end(m, start, b'\r');
     }
     if second {
         return Err(Refusal::SecondHeader);
@@ -59,7 +55,7 @@ fn check_segments(m: &[u8]) -> Result<(), Refusal>
 pub fn check(m: &[u8]) -> Result<(), Refusal>
     ensures { framing_of result ≡ first (frame_tests m.now) tt }
 {
-    if m.len() == 0 {
+    if m.is_empty() {
         return Err(Refusal::Empty);
     }
     if limits::LONGEST_MESSAGE < m.len() {
@@ -71,7 +67,7 @@ pub fn check(m: &[u8]) -> Result<(), Refusal>
     if !has_header(m) {
         return Err(Refusal::NoHeader);
     }
-    if m[m.len() - 1] != b'\r' {
+    if !m.ends_with(b"\r") {
         return Err(Refusal::NoEnd);
     }
     check_segments(m)

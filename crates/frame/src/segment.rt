@@ -14,10 +14,10 @@ pub fn is_name(a: u8, b: u8, c: u8) -> bool
 pub fn has_name(s: &[u8], a: u8, b: u8, c: u8) -> bool
     ensures { result ≡ named (a ∷ b ∷ c ∷ []) s.now }
 {
-    if s.len() < 3 {
-        return false;
+    match s {
+        [x, y, z, ..] => (*x == a) & ((*y == b) & (*z == c)),
+        _ => false,
     }
-    (s[0] == a) & ((s[1] == b) & (s[2] == c))
 }
 
 pub fn is_header(s: &[u8]) -> bool
@@ -30,11 +30,9 @@ pub fn is_header(s: &[u8]) -> bool
 pub fn is_segment(q: Marks, s: &[u8]) -> bool
     ensures { result ≡ is_segment q s.now }
 {
-    if s.len() < 3 {
-        return false;
+    match s {
+        [a, b, c] => is_name(*a, *b, *c),
+        [a, b, c, d, ..] => is_name(*a, *b, *c) & (*d == q.field),
+        _ => false,
     }
-    if s.len() == 3 {
-        return is_name(s[0], s[1], s[2]);
-    }
-    is_name(s[0], s[1], s[2]) & (s[3] == q.field)
 }

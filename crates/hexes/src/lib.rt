@@ -5,7 +5,7 @@ ghost use Rattle.std.specs.Prelude.{◌≡◌, ◌*◌, ◌≤◌, ◌<◌, leng
 ghost use Rattle.text.specs.Puts.{Puts};
 ghost use Rattle.hexes.specs.Hex.{hex_digit, behind, hex_lines};
 
-use text::put;
+use text::Writer;
 
 fn hex_digit(n: u8) -> u8
     requires { n < 16 }
@@ -32,13 +32,9 @@ pub fn hex_lines(t: &[u8], out: &mut [u8]) -> usize
     requires { 3 * length t.now ≤ length out.old }
     ensures { Puts out.old 0 (hex_lines t.now) out.new result }
 {
-    let mut at = 0;
-    let mut i = 0;
-    while i < t.len() {
-        let b = t[i];
-        let digits = [hex_digit(b / 16), hex_digit(b % 16), gap(i)];
-        at = put(out, at, &digits);
-        i += 1;
+    let mut w = Writer { out, at: 0 };
+    for (i, b) in t.iter().enumerate() {
+        w.put(&[hex_digit(b / 16), hex_digit(b % 16), gap(i)]);
     }
-    at
+    w.at
 }

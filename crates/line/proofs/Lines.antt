@@ -10,7 +10,7 @@ use Rattle.reader.specs.Fault.{condition}
 use Rattle.line.specs.Line.{place_words, fault_line, text_line, newline, as_line}
 
 pub text-written : (a e : ℕ)
-    → (((bytes "text " ++ decimal a) ++ bytes " ") ++ decimal e) ++ newline ∷ [] ≡ as_line (text_line a e)
+    → ((bytes "text" ++ (byte " " ∷ decimal a)) ++ (byte " " ∷ decimal e)) ++ newline ∷ [] ≡ as_line (text_line a e)
 unfolding text_line join led
 text-written a e =
     simp (append_assoc, append-nil)

@@ -2,7 +2,8 @@
 -- What only inner functions promise and ask for.
 use Rattle.std.specs.Prelude.{ℕ, ◌+◌, ◌≤◌, ◌≡◌, length}
 use Rattle.text.specs.Bytes.{Text}
-use Rattle.text.specs.Puts.{Puts}
+use Rattle.text.specs.declared.writer.Writer.{Writer}
+use Rattle.text.specs.Writes.{Writes}
 
 -- the bytes that a program lends for a line that tells a refusal or a look-up, and for one that tells a verdict
 abbrev pub look_buffer : ℕ
@@ -18,8 +19,8 @@ number_size = 21
 abbrev pub place_size : ℕ
 place_size = 109
 
--- the text stands at the place, and takes at most so many bytes
-pub record PutsWithin (size : ℕ) (before : Text) (at : ℕ) (t after : Text) (r : ℕ) : Type 0 where
-  pub puts : Puts before at t after r
-  pub short : r ≤ at + size
-  pub stays : length after ≡ length before
+-- the text is put where the writer stood, and takes at most so many bytes
+pub record WritesWithin (size : ℕ) (before : Writer) (t : Text) (after : Writer) : Type 0 where
+  pub writes : Writes before t after
+  pub short : after.at ≤ before.at + size
+  pub stays : length after.out.now ≡ length before.out.now

@@ -8,10 +8,10 @@ use lib.ListN.{length}
 use lib.Dec.{eqb}
 use borrow.Author.Tests.{ne_eqb}
 use Rattle.text.specs.Bytes.{Text, bytes, empty}
-use Rattle.text.specs.Puts.{Puts}
 use Rattle.text.specs.declared.marks.Marks.{Marks}
 use Rattle.text.specs.Marks.{marks_of}
-use Rattle.reader.specs.declared.standing.Standing.{Standing}
+use Rattle.text.specs.declared.span.Span.{Span}
+use Rattle.std.proofs.Common.{Option}
 use Rattle.profile.specs.Limits.{control_limit}
 use Rattle.reader.specs.Copied.{standing, segment_text}
 use Rattle.reader.specs.FromField.{FieldsFrom, first_repetition, first_leaf}
@@ -26,7 +26,7 @@ empty-length [] = refl
 empty-length (x ∷ t) = ne_eqb (length (x ∷ t)) 0 (λ e. omega arith)
 
 -- what stands of the segment that was sought stands of the header
-pub header-from : (m : Text) (s : Standing) → s ≡ standing m (bytes "MSH") 1 → (f : ℕ) (t : Text)
+pub header-from : (m : Text) (s : Option Span) → s ≡ standing m (bytes "MSH") 1 → (f : ℕ) (t : Text)
     → FieldsFrom (marks_of m) (segment_text m s) f t → HeaderFrom m f t
 header-from m s h f t from = rw (standing-bytes m (bytes "MSH") 1 s h) at from
 
@@ -36,6 +36,3 @@ module _ (m tenth : Text) (from : HeaderFrom m 10 tenth) {q : Marks} (k : q ≡ 
 
   pub control-tested : (u : Bool) → u ≡ is_unfit q control_limit t → (eqb (length t) 0 || u) ≡ no_control m
   control-tested u w = rw (w, k, empty-length t, control-copied)
-
-  pub control_put : {before : Text} {at : ℕ} {after : Text} {r : ℕ} → Puts before at t after r → Puts before at (control m) after r
-  control_put p = rw control-copied at p

@@ -1,35 +1,23 @@
 -- The MSA's code and the ERR of a reply as they are written, one text after another.
 use mathlib.Core.Path.{◌≡◌, refl, sym, ap, ◌∙◌}
-use Prim.Native.Nat.{ℕ, zero, suc, ◌+◌, ◌≤◌, ◌<◌}
+use Prim.Native.Nat.{ℕ, zero, suc, ◌+◌}
 use native.Mathlib.Omega.{arith}
 use mathlib.Core.Bool.{Bool, true, false, not, ◌&&◌, ◌||◌}
 use mathlib.Core.List.{List, [], ◌∷◌, ◌++◌, map, append_assoc, append-nil}
 use lib.ListN.{length, length-append}
 use lib.Dec.{eqb, ltb}
-use borrow.Author.Tests.{lt-ltb, le-ltb, ne_eqb, not-true, not-false}
+use borrow.Author.Tests.{lt-ltb, ne_eqb, not-true, not-false}
 use Rattle.text.specs.Bytes.{Text, pick, bytes, byte, cr, empty}
 use Rattle.text.specs.Decimal.{decimal}
 use Rattle.text.specs.Ranges.{◌to◌, is_within}
-use Rattle.text.specs.Puts.{Puts}
 use Rattle.text.specs.Marks.{usual}
 use Rattle.parts.specs.Split.{led, join, closed}
-use Rattle.reader.specs.declared.Fault.{Fault}
-use Rattle.reader.specs.declared.Verdict.{Verdict}
-use Rattle.reader.specs.declared.Verdict.TheVariants as verdict
 use Rattle.reader.specs.declared.Place as code-place
 use Rattle.reader.specs.Place.{Place}
 use Rattle.reader.specs.Told.{place_of}
 use Rattle.reader.specs.Fault.{condition}
-use Rattle.report.specs.Error.{first_rejection, without_trailing_zeros, place_text, condition_text}
-use Rattle.report.specs.Inner.{code_of, condition_words, error_text}
-
--- THE CODE of a fault, by its condition
-module _ (v : Verdict) (f : Fault) (k : ℕ) (e : v ≡ verdict.Fault f) (q : k ≡ condition f.reason) where
-  pub code_error : k < first_rejection → code_of v ≡ bytes "MSA|AE|"
-  code_error h = ap code_of e ∙ rw (← q, lt-ltb k first_rejection h)
-
-  pub code_reject : first_rejection ≤ k → code_of v ≡ bytes "MSA|AR|"
-  code_reject h = ap code_of e ∙ rw (← q, le-ltb k first_rejection h)
+use Rattle.report.specs.Error.{without_trailing_zeros, place_text, condition_text}
+use Rattle.report.specs.Inner.{condition_words, error_text}
 
 -- a number of a place after its separator
 abbrev numbered : Bool → ℕ → Text
@@ -133,23 +121,20 @@ module _ (p : code-place.Place) where
         append-nil (numbered e p.subcomponent),
       ))
 
-  pub place-length : length (place_text (place_of p))
+  pub place_length : length (place_text (place_of p))
       ≡ 3
       + (length (numbered a p.occurrence)
       + (length (numbered b p.field)
       + (length (numbered c p.repetition) + (length (numbered d p.component) + length (numbered e p.subcomponent)))))
-  place-length = ap length (sym place-written) ∙ simp length-append (omega arith)
+  place_length = ap length (sym place-written) ∙ simp length-append (omega arith)
 
 -- A CONDITION: its words told by its number
 abbrev pub words : ℕ → Text
 words k = join usual.component (decimal k ∷ condition_text k ∷ bytes "HL70357" ∷ [])
 
 module _ (n v : ℕ) {k : ℕ} (told : k ≡ condition n) (e : k ≡ v) where
-  pub condition-room : (at l : ℕ) → at + length (condition_words n) ≤ l → at + length (words v) ≤ l
-  condition-room at l h = rw (← told, e) at h
-
-  pub condition_put : {before : Text} {at : ℕ} {after : Text} {r : ℕ} → Puts before at (words v) after r → Puts before at (condition_words n) after r
-  condition_put p = rw (← told, e) p
+  pub condition_told : words v ≡ condition_words n
+  condition_told = rw (← e, told)
 
 -- what is none of the conditions is 0
 abbrev Other : ℕ → Type 0

@@ -3,4 +3,4 @@ use Rattle.reply.proofs.Control.{control-tested}
 use Rattle.reply.proofs.has_no_control.Goals as goal
 
 pub returns : goal.returns
-returns c = control-tested c.args.m.now c.args.tenth.now c.requires c.marks_of-q.ensures _ c.field_leaf-control.ensures _ c.is_unfit.ensures
+returns c = rw c.is_empty.ensures (control-tested c.args.h.message.now c.args.h.tenth.now c.requires c.marks_of-q.ensures _ c.field_leaf-control.ensures _ c.is_unfit.ensures)
