@@ -11,6 +11,7 @@ use borrow.Author.Tests.{lt-ltb, le-ltb, ltb-true, ltb-false}
 use Rattle.std.proofs.Common.{Option, None, Some}
 use Rattle.text.specs.Bytes.{Text, pick, cr, keep}
 use Rattle.text.specs.declared.span.Span.{Span}
+use Rattle.parts.specs.Split.{ended}
 use Rattle.parts.specs.Start.{before, reach}
 use Rattle.parts.specs.Span.{span}
 use Rattle.parts.proofs.Split.{before-first, before_le, stands_le}
@@ -34,14 +35,18 @@ offset-none : (ss : List Text) → offset ss 0 ≡ 0
 offset-none [] = refl
 offset-none (s ∷ ss) = refl
 
-more-ahead : (t : Text) (b : Bool) → ltb (reach cr t) (length t) ≡ b → 1 ≤ length (segments t) → reach cr t < length t
-more-ahead t true e h = ltb-true (reach cr t) (length t) e
-more-ahead t false e h = absurd (omega (arith, ap length (ended-last cr t (ltb-false (reach cr t) (length t) e))))
+-- where there is a piece that a separator ends, there is a separator
+separator-step : (sep : ℕ) (t : Text) (b : Bool) → ltb (reach sep t) (length t) ≡ b → 1 ≤ length (ended sep t) → reach sep t < length t
+separator-step sep t true e h = ltb-true (reach sep t) (length t) e
+separator-step sep t false e h = absurd (omega (arith, ap length (ended-last sep t (ltb-false (reach sep t) (length t) e))))
+
+pub separator-ahead : (sep : ℕ) (t : Text) → 1 ≤ length (ended sep t) → reach sep t < length t
+separator-ahead sep t h = separator-step sep t (ltb (reach sep t) (length t)) refl h
 
 before-offset : (t : Text) (j : ℕ) → j ≤ length (segments t) → before cr t j ≡ offset (segments t) j
 before-offset t zero h = before-first cr t ∙ sym (offset-none (segments t))
 before-offset t (suc i) h =
-    let l = more-ahead t (ltb (reach cr t) (length t)) refl (omega arith) in
+    let l = separator-ahead cr t (omega arith) in
     let n = ended-next cr t l in
     let u = drop (suc (reach cr t)) t in
     rw n (omega (arith, before-next cr t i l, length-take-le (reach cr t) t (omega arith), before-offset u i (omega (arith, ap length n))))
