@@ -1,13 +1,13 @@
 -- A field that has components at most: each of them is its own first leaf, with no escape.
 use mathlib.Core.Path.{◌≡◌, refl, sym, ap, ◌∙◌}
-use Prim.Native.Nat.{ℕ, ◌+◌, ◌-◌, ◌≤◌}
+use Prim.Native.Nat.{ℕ, zero, suc, ◌+◌, ◌-◌, ◌≤◌}
 use native.Mathlib.Omega.{arith}
 use mathlib.Core.Bool.{Bool, true, false, not, ◌||◌}
 use mathlib.Core.List.{List, [], ◌∷◌}
 use lib.ListN.{length, get_or, drop}
 use lib.Seq.{take_all}
 use lib.Dec.{eqb, ltb}
-use borrow.Author.Tests.{not-true}
+use borrow.Author.Tests.{not-true, lt-ltb, ne_eqb}
 use Rattle.profile.specs.Numbers.{component_column, row_size, subcomponent_column}
 use Rattle.text.specs.Bytes.{Text, every, within}
 use Rattle.escape.specs.Length.{Measures}
@@ -101,6 +101,11 @@ is_good (Err r) e = cc e
 pub not_broken : (r : Result Unit Reason) → is_err r ≡ false → r ≡ Ok tt
 not_broken (Ok _) e = refl
 not_broken (Err r) e = cc e
+
+-- some, told by a test for none
+pub not-none : (n : ℕ) → not (eqb n 0) ≡ ltb 0 n
+not-none zero = refl
+not-none (suc n) = rw (lt-ltb 0 (suc n) (omega arith), ne_eqb (suc n) 0 (λ e. omega (arith, e)))
 
 -- THE FIELD is its only repetition
 pub flat-reads : (q : Marks) (ls : List Leaf) (x : Text) → is_flat q x ≡ true → ReadsRepetition q ls x passed_once → (most : ℕ) → 1 ≤ most → ReadsField q ls most x passed

@@ -32,7 +32,7 @@ pub fn read_field(s: &[u8], q: Marks, table: &[u16], rows: Span, most: u64) -> R
         filled: false,
         broken: None,
     };
-    if s.len() == 0 {
+    if s.is_empty() {
         return found;
     }
     let mut start = 0;
@@ -41,7 +41,7 @@ pub fn read_field(s: &[u8], q: Marks, table: &[u16], rows: Span, most: u64) -> R
         if found.broken.is_none() {
             let r = read_repetition(&s[start..end], q, table, rows);
             if r.filled {
-                found.filled = found.filled | (number == 1);
+                found.filled |= number == 1;
                 found.broken = r.broken.map(|leaf| BrokenInField {
                     repetition: number,
                     leaf,

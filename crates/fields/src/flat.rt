@@ -48,13 +48,8 @@ fn one_leaf_passes(s: &[u8], q: Marks, table: &[u16], rows: Span) -> bool
         return false;
     }
     let first = first_piece(s, q.component, false);
-    let from = first.start;
-    let to = first.end;
-    let leaf = &s[from..to];
-    if leaf.len() == 0 {
-        return false;
-    }
-    plain_reason(leaf, table, at, leaf.len()).is_ok()
+    let leaf = &s[first.start..first.end];
+    !leaf.is_empty() && plain_reason(leaf, table, at, leaf.len()).is_ok()
 }
 
 // Whether the components are seen to be leaves that break nothing, some of them filled.
@@ -76,13 +71,11 @@ fn leaves_pass(s: &[u8], q: Marks, table: &[u16], rows: Span) -> bool
             return false;
         }
         cursor = advance(s, q.component, false, cursor, number);
-        let from = cursor.start;
-        let to = cursor.end;
-        let leaf = &s[from..to];
+        let leaf = &s[cursor.start..cursor.end];
         if !takes_any(leaf.len(), table, at) && plain_reason(leaf, table, at, leaf.len()).is_err() {
             return false;
         }
-        filled = filled | (0 < leaf.len());
+        filled |= !leaf.is_empty();
         at += columns::ROW;
     }
     filled

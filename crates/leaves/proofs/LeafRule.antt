@@ -6,7 +6,8 @@ use mathlib.Core.Bool.{Bool, true, false, not}
 use mathlib.Core.List.{List, [], ◌∷◌}
 use lib.ListN.{length, get_or, drop}
 use lib.Seq.{get_or-drop}
-use borrow.Author.Tests.{eq-eqb, ne_eqb, lt-ltb, le-ltb}
+use lib.Dec.{eqb}
+use borrow.Author.Tests.{eq-eqb, ne_eqb, lt-ltb, le-ltb, eqb-true, eqb-false}
 use Rattle.text.specs.Bytes.{Text, pick, empty}
 use Rattle.escape.specs.Escape.{bad_escape, resolved}
 use Rattle.escape.specs.Length.{Measures}
@@ -27,6 +28,13 @@ use Rattle.checks.specs.declared.reasons.Reason.TheVariants.{NotOfItsType, NoSuc
 use Rattle.checks.specs.Reasons.{number_of_reason}
 use Rattle.leaves.specs.Judged.{told, type_reason}
 use Rattle.leaves.proofs.Breaks.{or_else}
+
+-- what the test for no bytes says
+pub bytes_none : (s : Text) (r : Bool) → r ≡ eqb (length s) 0 → r ≡ true → length s ≡ 0
+bytes_none s r e h = eqb-true (length s) 0 (sym e ∙ h)
+
+pub bytes_some : (s : Text) (r : Bool) → r ≡ eqb (length s) 0 → r ≡ false → length s ≡ 0 → ⊥
+bytes_some s r e h = eqb-false (length s) 0 (sym e ∙ h)
 
 -- no bytes, no escape
 no_escape : (q : Marks) (s : Text) → length s ≡ 0 → bad_escape q s ≡ false

@@ -75,16 +75,12 @@ pub fn read_repetition(s: &[u8], q: Marks, table: &[u16], rows: Span) -> ReadRep
         }
         let sub = table[at + columns::SUBCOMPONENT] as u64;
         cursor = advance(s, q.component, false, cursor, number);
-        let from = cursor.start;
-        let to = cursor.end;
-        let part = &s[from..to];
-        let p = piece(part, q.subcomponent, sub);
-        let a = p.start;
-        let b = p.end;
-        found.filled = found.filled | (a < b);
+        let part = &s[cursor.start..cursor.end];
+        let leaf = piece(part, q.subcomponent, sub);
+        found.filled |= leaf.start < leaf.end;
         if found.broken.is_none() {
-            let leaf = leaf_reason(&part[a..b], q, table, at);
-            found.broken = leaf.err().map(|reason| BrokenLeaf {
+            let judged = leaf_reason(&part[leaf.start..leaf.end], q, table, at);
+            found.broken = judged.err().map(|reason| BrokenLeaf {
                 reason,
                 component: number,
                 subcomponent: sub,

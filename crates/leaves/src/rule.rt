@@ -56,7 +56,7 @@ pub fn plain_reason(s: &[u8], table: &[u16], at: usize, n: usize) -> Result<(), 
     requires known_reason { reason_fits (leaf_of (drop at table.now)).list ≡ true }
     ensures { ReadsPlain (leaf_of (drop at table.now)) s.now n result }
 {
-    if s.len() == 0 {
+    if s.is_empty() {
         if table[at + columns::STAR] == numbers::STARRED {
             return Err(Reason::Missing);
         }

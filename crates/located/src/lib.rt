@@ -26,14 +26,12 @@ use text::{Marks, Span};
 pub fn fields_start(s: &[u8], k: u16) -> usize
     ensures { result ≡ min (fields_from k) (length s.now) }
 {
-    let mut start = limits::OPENING_SIZE;
-    if k == numbers::MSH {
-        start = limits::HEADER_SIZE;
-    }
-    if s.len() < start {
-        return s.len();
-    }
-    start
+    let start = if k == numbers::MSH {
+        limits::HEADER_SIZE
+    } else {
+        limits::OPENING_SIZE
+    };
+    start.min(s.len())
 }
 
 // How many fields stand before those: MSH-1 and MSH-2 are the header's separators.
@@ -56,9 +54,7 @@ pub fn field_text<'a>(s: &'a [u8], q: Marks, k: u16, number: u64) -> &'a [u8]
     let before = fields_before(k);
     let first = first_piece(fields, q.field, false);
     let p = advance(fields, q.field, false, first, number - before);
-    let from = p.start;
-    let to = p.end;
-    &fields[from..to]
+    &fields[p.start..p.end]
 }
 
 // Where the first leaf of a field ends: the first subcomponent of the first component of its first repetition.

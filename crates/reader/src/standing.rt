@@ -3,7 +3,7 @@ ghost use Rattle.std.specs.Prelude.{◌≡◌, [], ◌∷◌, ◌≤◌};
 ghost use Rattle.reader.specs.Copied.{standing};
 
 use frame::has_name;
-use parts::far_end;
+use parts::Ended;
 use text::Span;
 
 // Where occurrence `number` of a name stands, from 1, its CR not counted: one walk, from segment to segment.
@@ -14,16 +14,19 @@ pub fn occurrence(m: &[u8], a: u8, b: u8, c: u8, number: u64) -> Option<Span>
 {
     let mut left = number;
     let mut start = 0;
-    let mut end = far_end(m, 0, b'\r');
-    while end < m.len() {
-        if has_name(&m[start..end], a, b, c) {
+    let segments = Ended {
+        rest: m,
+        sep: b'\r',
+    };
+    for s in segments {
+        let end = start + s.len();
+        if has_name(s, a, b, c) {
             if left <= 1 {
                 return Some(Span { start, end });
             }
             left -= 1;
         }
         start = end + 1;
-        end = far_end(m, start, b'\r');
     }
     None
 }

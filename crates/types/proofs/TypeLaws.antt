@@ -7,7 +7,7 @@ use native.Mathlib.Omega.{arith}
 use Rattle.std.specs.List.{take_while}
 use Rattle.std.proofs.lemmas.List.Sums.{take_while-cons}
 use borrow.Author.Tests.{lt-ltb, leb-true}
-use lib.ListN.{length, get_or, take, drop}
+use lib.ListN.{length, take, drop}
 use lib.Dec.{eqb, leb, ltb, eqb-zero-suc, eqb-suc-suc}
 use Rattle.text.specs.Bytes.{Text, pick, digit, empty, every}
 use Rattle.types.specs.Types.{digits, rest, begins, two, twos}
@@ -72,15 +72,6 @@ pub digits-some : (t : Text) → ltb 0 (length (digits t)) ≡ begins digit t
 unfolding digits
 digits-some [] = refl
 digits-some (b ∷ t) = some-step b (digits t) (digit b)
-
--- a text without bytes; what another begins with, by its first byte
-pub no_bytes : (t : Text) → length t ≡ 0 → [] ≡ t
-no_bytes [] e = refl
-no_bytes (b ∷ t) e = absurd (omega arith)
-
-pub begins-at : (p : ℕ → Bool) (t : Text) → (length t ≡ 0 → ⊥) → begins p t ≡ p (get_or t 0 0)
-begins-at p [] h = absurd (h refl)
-begins-at p (b ∷ t) h = refl
 
 -- the part of a text after the digits, as code takes it
 pub part-after-digits : (t : Text) (n : ℕ) → n ≡ length (digits t) → take (length t - n) (drop n t) ≡ rest t

@@ -113,14 +113,11 @@ fn twos_len(ranges: &[(u8, u8)], t: &[u8]) -> usize
 fn is_zone(t: &[u8]) -> bool
     ensures { result ≡ is_zone t.now }
 {
-    if t.len() == 0 {
-        return true;
+    match t {
+        [] => true,
+        [sign, after @ ..] if is_sign(*sign) & (after.len() == 4) => twos_len(&ZONE, after) == 4,
+        _ => false,
     }
-    if !(is_sign(t[0]) & (t.len() == 5)) {
-        return false;
-    }
-    let after = &t[1..];
-    twos_len(&ZONE, after) == 4
 }
 
 fn is_fraction(t: &[u8]) -> bool

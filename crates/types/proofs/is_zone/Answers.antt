@@ -1,49 +1,24 @@
--- `is_zone`: sign and length, then the digits and their ranges.
-use mathlib.Core.Path.{◌≡◌, refl, sym, ap, ◌∙◌}
-use mathlib.Core.Bool.{Bool, true, ◌&&◌}
-use mathlib.Core.List.{[], ◌∷◌}
-use Prim.Native.Nat.{ℕ}
-use native.Mathlib.Omega.{arith}
-use borrow.Author.Tests.{eqb-true}
+-- `is_zone`: sign and length, then as many digits within their ranges as there are bytes.
+use Rattle.std.proofs.Common.{◌≡◌, ◌≤◌, ◌-◌, ℕ, Bool, true, ◌&&◌, ◌∷◌, [], sym, ap, ◌∙◌, arith, length, get_or, drop, take}
+use borrow.Author.Tests.{eqb-true, eq-eqb}
 use lib.Dec.{eqb}
-use lib.ListN.{length, get_or, drop}
-use Rattle.text.specs.Bytes.{Text, digit, every}
+use Rattle.text.specs.Bytes.{Text}
 use Rattle.text.proofs.Tests.{both}
 use Rattle.text.proofs.Lists.{part-rest}
-use Rattle.types.specs.Types.{is_zone, sign, twos, zone}
+use Rattle.types.specs.Types.{is_zone, sign, zone}
 use Rattle.types.specs.Inner.{ranges_of, twos_length}
 use Rattle.types.proofs.TwosLaws.{length-all}
 use Rattle.types.proofs.is_zone.Goals as goal
 
--- the tests of sign and length decide, or leave the rest
-tested : (t : Text) (s b : Bool) → (length t ≡ 0 → ⊥) → s ≡ sign (get_or t 0 0) → s && eqb (length t) 5 ≡ b
-    → is_zone t ≡ b && every digit (drop 1 t) && twos zone (drop 1 t)
-tested [] s b h e f = absurd (h refl)
-tested (x ∷ t) s b h e f = ap (λ y. y && every digit t && twos zone t) (ap (λ y. y && eqb (length (x ∷ t)) 5) (sym e) ∙ f)
+counted : (t : Text) (s : Bool) (n : ℕ) → 1 ≤ length t → s ≡ sign (get_or t 0 0) → s && eqb (length (take (length t - 1) (drop 1 t))) 4 ≡ true
+    → n ≡ twos_length zone (take (length t - 1) (drop 1 t)) → eqb n 4 ≡ is_zone t
+counted [] s n h e f k = absurd (omega arith)
+counted (x ∷ t) s n h e f k =
+    let w = both s (eqb (length t) 4) (rw part-rest at f) in
+    let four : length t ≡ 4 = eqb-true (length t) 4 w.1 in
+    let five : length (x ∷ t) ≡ 5 = omega arith in
+    rw (sym e ∙ w.0, eq-eqb (length (x ∷ t)) 5 five, length-all zone t, k ∙ ap (twos_length zone) (part-rest 1 (x ∷ t)), four)
 
--- so many bytes after the sign
-four-left : (t : Text) → length t ≡ 5 → length (drop 1 t) ≡ 4
-four-left [] e = absurd (omega arith)
-four-left (x ∷ t) e = omega arith
-
--- as many of them as there are must be twos
-counted : (t u : Text) (s : Bool) (n : ℕ) → (length t ≡ 0 → ⊥) → s ≡ sign (get_or t 0 0) → s && eqb (length t) 5 ≡ true
-    → u ≡ drop 1 t → n ≡ twos_length zone u → eqb n 4 ≡ is_zone t
-counted t u s n h e f p q =
-    let five = eqb-true (length t) 5 (both s (eqb (length t) 5) f).1 in
-    ap (λ k. eqb k 4) (q ∙ ap (twos_length zone) p)
-    ∙ ap (eqb (twos_length zone (drop 1 t))) (sym (four-left t five))
-    ∙ sym (tested t s true h e f ∙ length-all zone (drop 1 t))
-
-pub returns : goal.returns
+pub returns-in-len1-up : goal.returns-in-len1-up
 unfolding ranges_of
-returns c = counted
-    c.args.t.now
-    _
-    c.is_sign.result
-    c.twos_len.result
-    c.if-t-eq0.false
-    c.is_sign.ensures
-    (c.if-not-is_sign-t.false)
-    (part-rest 1 c.args.t.now)
-    c.twos_len.ensures.0
+returns-in-len1-up c = counted c.args.t.now c.is_sign.result _ c.in-len1-up.len_at_least c.is_sign.ensures c.if-is_sign-after.true c.twos_len.ensures.0

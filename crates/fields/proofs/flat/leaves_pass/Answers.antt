@@ -1,4 +1,5 @@
 -- `leaves_pass`: nothing is broken before the row where the loop stands.
+use lib.ListN.{length}
 use mathlib.Core.Path.{refl, sym, ◌∙◌}
 use Rattle.checks.specs.Place.{place}
 use Rattle.fields.specs.Flat.{passed_once}
@@ -7,7 +8,7 @@ use Rattle.text.specs.Bytes.{within}
 use Rattle.text.proofs.Tests.{both}
 use Rattle.cursor.proofs.Moving.{cursor-inside}
 use Rattle.leaves.proofs.LeafByLeaf.{reading-first, reading-number, reading-reason, reading-missing, reading-none}
-use Rattle.fields.proofs.FlatField.{flat_measured, flat_on, not_broken}
+use Rattle.fields.proofs.FlatField.{flat_measured, flat_on, not_broken, not-none}
 use Rattle.std.specs.Prelude.{Ok}
 use Rattle.fields.proofs.flat.leaves_pass.Goals as goal
 use Rattle.fields.proofs.flat.leaves_pass.Goals.{else-not-takes_any-via-then-not-takes_any+else-is_err as judged, else-not-takes_any-via-else-not-takes_any as any_text}
@@ -41,11 +42,12 @@ pub loop-at-preserved : goal.loop-at-preserved
 loop-at-preserved c =
     let x = within c.advance-cursor.result.start c.advance-cursor.result.end c.args.s.now in
     let measured = flat_measured c.loop-at.invariant c.loop-at-test.true c.requires.1 c.if-table-at-ne1.false c.advance-cursor.ensures in
-    elim c.else-not-takes_any.branch [
+    rw (c.is_empty.ensures, not-none (length x))
+    (elim c.else-not-takes_any.branch [
       | judged w ↦
           flat_on c.loop-at.invariant c.loop-at-test.true c.requires.1 c.if-table-at-ne1.false c.advance-cursor.ensures
           w.plain_reason.result (w.plain_reason.ensures c.args.q measured) (not_broken _ (sym w.is_err.ensures.value ∙ w.if-is_err.false))
       | any_text w ↦
           flat_on c.loop-at.invariant c.loop-at-test.true c.requires.1 c.if-table-at-ne1.false c.advance-cursor.ensures
           (Ok tt) (c.takes_any.ensures w.if-not-takes_any.false c.args.q x measured) refl
-    ]
+    ])

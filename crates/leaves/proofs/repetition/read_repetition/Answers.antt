@@ -20,13 +20,13 @@ pub slice_bounds-part-end : goal.slice_bounds-part-end
 slice_bounds-part-end c = (cursor-inside _ _ _ c.advance-cursor.ensures.0).1
 
 pub slice_bounds-leaf_reason-end : goal.slice_bounds-leaf_reason-end
-slice_bounds-leaf_reason-end c = (piece_inside (get_or c.args.table.now (c.loop-at.at + subcomponent_column) 0) _ _ c.piece-p.ensures).1
+slice_bounds-leaf_reason-end c = (piece_inside (get_or c.args.table.now (c.loop-at.at + subcomponent_column) 0) _ _ c.piece-leaf.ensures).1
 
 pub returns : goal.returns
 returns c = reading-none c.loop-at.invariant c.loop-at-test.false
 
-pub leaf_reason-leaf-requires-clause-known_reason : goal.leaf_reason-leaf-requires-clause-known_reason
-leaf_reason-leaf-requires-clause-known_reason c = reading-reason c.loop-at.invariant c.loop-at-test.true
+pub leaf_reason-judged-requires-clause-known_reason : goal.leaf_reason-judged-requires-clause-known_reason
+leaf_reason-judged-requires-clause-known_reason c = reading-reason c.loop-at.invariant c.loop-at-test.true
 
 pub returns-then-is_none : goal.returns-then-is_none
 returns-then-is_none c =
@@ -42,14 +42,14 @@ loop-at-preserved c =
       | then-is_none-2 x ↦
           let component = get_or c.args.table.now (c.loop-at.at + component_column) 0 in
           let subcomponent = get_or c.args.table.now (c.loop-at.at + subcomponent_column) 0 in
-          let made : x.map-found.result ≡ broken_at x.leaf_reason-leaf.result component subcomponent =
+          let made : x.map-found.result ≡ broken_at x.leaf_reason-judged.result component subcomponent =
           leaf_made _ _ _ component subcomponent _ x.err.ensures.value (λ r leaf h. search rules) x.map-found.ensures.cases
           in
           rw (x.found-is, made)
-          (reading-judged c.loop-at.invariant c.loop-at-test.true c.advance-cursor.ensures c.piece-p.ensures
-          (none_yet _ _ c.is_none-in-loop-at.ensures x.if-is_none-2.true) _ x.leaf_reason-leaf.ensures)
+          (reading-judged c.loop-at.invariant c.loop-at-test.true c.advance-cursor.ensures c.piece-leaf.ensures
+          (none_yet _ _ c.is_none-in-loop-at.ensures x.if-is_none-2.true) _ x.leaf_reason-judged.ensures)
       | else-is_none-2 x ↦
           rw x.found-is
-          (reading-passed c.loop-at.invariant c.loop-at-test.true c.advance-cursor.ensures c.piece-p.ensures
+          (reading-passed c.loop-at.invariant c.loop-at-test.true c.advance-cursor.ensures c.piece-leaf.ensures
           (one_before _ _ c.is_none-in-loop-at.ensures x.if-is_none-2.false))
     ]

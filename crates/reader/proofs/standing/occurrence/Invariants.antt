@@ -1,18 +1,13 @@
--- `occurrence`: where it stands is told from where the walk is.
-use Prim.Native.Nat.{◌+◌, ◌-◌, ◌≤◌}
-use mathlib.Core.Path.{◌≡◌}
+-- `occurrence`: where it stands is told from the segments that are left.
+use Prim.Native.Nat.{◌+◌, ◌≤◌}
 use mathlib.Core.List.{[], ◌∷◌}
-use lib.ListN.{length, drop}
-use Rattle.text.specs.Bytes.{cr}
-use Rattle.parts.specs.Start.{reach}
+use lib.ListN.{length}
+use Rattle.parts.specs.Split.{ended}
 use Rattle.reader.specs.Copied.{standing}
-use Rattle.reader.proofs.Seek.{Sought}
+use Rattle.reader.proofs.Seek.{Sought, taken}
 use Rattle.reader.proofs.standing.occurrence.Given as goal
 
-abbrev pub invariant-loop-end : goal.invariant-loop-end
-invariant-loop-end l = (l.start ≤ length l.m)
-    × ((l.end ≡ l.start + reach cr (drop l.start l.m))
-    × ((1 ≤ l.left) × Sought l.m (l.a ∷ l.b ∷ l.c ∷ []) (standing l.m (l.a ∷ l.b ∷ l.c ∷ []) l.number) l.left l.start))
-
-abbrev pub decreases-loop-end : goal.decreases-loop-end
-decreases-loop-end l = length l.m - l.start
+abbrev pub invariant-loop-s : goal.invariant-loop-s
+invariant-loop-s l = (1 ≤ l.left)
+    × ((l.start + taken (ended l.s-iterator.sep l.s-iterator.rest.now) ≤ length l.m)
+    × Sought (l.a ∷ l.b ∷ l.c ∷ []) (standing l.m (l.a ∷ l.b ∷ l.c ∷ []) l.number) l.left l.start (ended l.s-iterator.sep l.s-iterator.rest.now))
