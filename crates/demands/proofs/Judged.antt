@@ -144,7 +144,7 @@ fault-named m p n e =
 abbrev verdict_by : Answer Verdict → Result (Option code-fault.Fault) Refusal
 verdict_by (refused r) = Err r
 verdict_by (given accepted) = Ok None
-verdict_by (given (fault p n)) = Ok (Some (record { place = place_by p; reason = n }))
+verdict_by (given (fault p n)) = Ok (Some (record { place = place_by p; reason = reason_at n }))
 
 verdict_back : (m : Text) (a : Answer Verdict) → judge profile01 m ≡ a → verdict_of (verdict_by a) ≡ a
 verdict_back m (refused r) e = refl

@@ -4,6 +4,7 @@
 ghost use Rattle.std.specs.Prelude.{◌≡◌, List, ℕ, []};
 ghost use Rattle.text.specs.Answer.{answer_of};
 ghost use Rattle.reader.specs.Fault.{fault};
+ghost use Rattle.reader.specs.Reasons.{number_of_reason};
 ghost use Rattle.reader.specs.Told.{place_of, found_told, verdict_told};
 ghost use Rattle.numbers.specs.Told.{Tells, verdict_numbers, found_numbers, size_numbers, part_numbers};
 
@@ -23,17 +24,16 @@ pub trait Told<const N: usize> {
 
 // The ten numbers of a fault.
 fn fault_numbers(f: Fault) -> [u64; 10]
-    ensures { result ≡ verdict_numbers (fault (place_of f.place) f.reason) }
+    ensures { result ≡ verdict_numbers (fault (place_of f.place) (number_of_reason f.reason)) }
 {
     let p = f.place;
-    let reason = f.reason as u64;
-    let code = condition(f.reason) as u64;
+    let reason = u8::from(f.reason);
     [
-        reason,
-        code,
-        p.first as u64,
-        p.second as u64,
-        p.third as u64,
+        u64::from(reason),
+        u64::from(condition(reason)),
+        u64::from(p.first),
+        u64::from(p.second),
+        u64::from(p.third),
         p.occurrence,
         p.field,
         p.repetition,
