@@ -9,23 +9,19 @@ use std::io::Read;
 use telling::tell_no_call;
 use words::seek;
 
-// Writes the line that was told, and tells whether it lies in its memory: where it does not, there is no more to do.
-fn say(rt: &impl Print, out: &[u8], n: usize) -> io::Result<bool> {
-    if out.len() < n {
+// Answers a line, and tells whether the answer lies in its memory: where it does not, there is no more to do. Of a line that is too long only
+// its end is here.
+fn answer_line(rt: &impl Print, line: &[u8], is_long: bool, out: &mut [u8]) -> io::Result<bool> {
+    let end = if is_long {
+        tell_no_call(out)
+    } else {
+        answer(line, out)
+    };
+    let Some(told) = out.get(..end) else {
         return Ok(false);
-    }
-    rt.write_all(&out[..n])?;
+    };
+    rt.write_all(told)?;
     Ok(true)
-}
-
-// Answers a line, and tells whether the answer was written. Of a line that is too long only its end is here.
-fn answer_line(rt: &impl Print, l: &[u8], is_long: bool, out: &mut [u8]) -> io::Result<bool> {
-    if is_long {
-        let n = tell_no_call(out);
-        return say(rt, out, n);
-    }
-    let n = answer(l, out);
-    say(rt, out, n)
 }
 
 // One turn: a line is answered, or more is read. At the input's end a line without its line feed is answered too.
