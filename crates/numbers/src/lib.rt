@@ -11,7 +11,7 @@ ghost use Rattle.numbers.specs.Told.{Tells, verdict_numbers, found_numbers, size
 mod place;
 
 pub use place::place_asked;
-use reader::{Fault, Found, condition};
+use reader::{Fault, Found};
 use text::{Refusal, Span};
 
 // What is told by N numbers.
@@ -27,10 +27,9 @@ fn fault_numbers(f: Fault) -> [u64; 10]
     ensures { result ≡ verdict_numbers (fault (place_of f.place) (number_of_reason f.reason)) }
 {
     let p = f.place;
-    let reason = u8::from(f.reason);
     [
-        u64::from(reason),
-        u64::from(condition(reason)),
+        u64::from(f.number()),
+        u64::from(f.condition()),
         u64::from(p.first),
         u64::from(p.second),
         u64::from(p.third),

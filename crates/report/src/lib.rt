@@ -23,7 +23,7 @@ pub fn put_code(w: &mut Writer, fault: Option<Fault>)
 {
     match fault {
         None => w.put(b"MSA|AA|"),
-        Some(f) if condition(u8::from(f.reason)) < FIRST_REJECTION => w.put(b"MSA|AE|"),
+        Some(f) if f.condition() < FIRST_REJECTION => w.put(b"MSA|AE|"),
         Some(_) => w.put(b"MSA|AR|"),
     }
 }
@@ -83,7 +83,7 @@ fn put_fault(w: &mut Writer, f: Fault)
     w.put(b"ERR||");
     put_place(w, f.place);
     w.put(b"|");
-    w.put(condition_words(u8::from(f.reason)));
+    w.put(condition_words(f.condition()));
     w.put(b"|E\r");
 }
 
