@@ -83,7 +83,7 @@ fn put_fault(w: &mut Writer, f: Fault)
     w.put(b"ERR||");
     put_place(w, f.place);
     w.put(b"|");
-    w.put(condition_words(f.condition()));
+    w.put(condition_words(f.number()));
     w.put(b"|E\r");
 }
 

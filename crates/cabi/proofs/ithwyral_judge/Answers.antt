@@ -1,7 +1,7 @@
 -- `ithwyral_judge`: what is told is the definition's answer.
 use Rattle.reader.specs.Told.{verdict_told}
 use Rattle.numbers.specs.Told.{verdict_numbers}
-use Rattle.numbers.proofs.Told.{told-of}
+use Rattle.numbers.proofs.Telling.{told-of}
 use Rattle.cabi.proofs.ithwyral_judge.Goals as goal
 
 pub returns : goal.returns

@@ -2,7 +2,7 @@
 use Rattle.std.proofs.Common.{◌∙◌}
 use Rattle.reader.specs.Told.{found_told}
 use Rattle.numbers.specs.Told.{found_numbers}
-use Rattle.numbers.proofs.Told.{told-of}
+use Rattle.numbers.proofs.Telling.{told-of}
 use Rattle.cabi.proofs.ithwyral_look_up.Goals as goal
 
 pub returns : goal.returns
