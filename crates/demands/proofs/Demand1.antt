@@ -21,7 +21,8 @@ use Rattle.reader.specs.declared.Place.{Place}
 use Rattle.reader.specs.Found as code-found
 use Rattle.reader.specs.LookUp.{Found, Empty, text_from_to, found, look_up_tests, look_up}
 use Rattle.reader.specs.Fault.{verdict, judge}
-use Rattle.reader.specs.Told.{place_of, found_told, found_of, verdict_of}
+use Rattle.seek.specs.Told.{found_told}
+use Rattle.reader.specs.Told.{place_of, found_of, verdict_of}
 use Rattle.text.specs.Part.{VeryPart}
 use Rattle.reader.specs.Part as part
 use Rattle.reader.specs.Promise.{LooksUp, Judges}

@@ -5,7 +5,8 @@ ghost use Rattle.std.specs.Prelude.{◌≡◌, List, ℕ, []};
 ghost use Rattle.text.specs.Answer.{answer_of};
 ghost use Rattle.reader.specs.Fault.{fault};
 ghost use Rattle.reader.specs.Reasons.{number_of_reason};
-ghost use Rattle.reader.specs.Told.{place_of, found_told, verdict_told};
+ghost use Rattle.reader.specs.Told.{place_of, verdict_told};
+ghost use Rattle.seek.specs.Told.{found_told};
 ghost use Rattle.numbers.specs.Told.{Tells, verdict_numbers, found_numbers, size_numbers, part_numbers};
 
 mod place;

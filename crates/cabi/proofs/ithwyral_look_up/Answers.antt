@@ -1,6 +1,6 @@
 -- `ithwyral_look_up`: what is found at the place looked up is what stands at the place asked for.
 use Rattle.std.proofs.Common.{◌∙◌}
-use Rattle.reader.specs.Told.{found_told}
+use Rattle.seek.specs.Told.{found_told}
 use Rattle.numbers.specs.Told.{found_numbers}
 use Rattle.numbers.proofs.Telling.{told-of}
 use Rattle.cabi.proofs.ithwyral_look_up.Goals as goal
