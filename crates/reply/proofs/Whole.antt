@@ -22,7 +22,7 @@ use Rattle.frame.specs.Frame.{frame_tests, framed}
 use Rattle.profile.specs.Profile.{profile01}
 use Rattle.reader.specs.declared.Fault as code
 use Rattle.reader.specs.Fault.{Verdict, accepted, fault, verdict, judge}
-use Rattle.checks.specs.Reasons.{number_of_reason}
+use Rattle.reader.specs.Reasons.{number_of_reason}
 use Rattle.reader.specs.Told.{place_of, verdict_told, verdict_of}
 use Rattle.heading.specs.Header.{reply_header}
 use Rattle.report.specs.Error as error

@@ -8,7 +8,7 @@ use Rattle.parts.specs.Split.{join, closed}
 use Rattle.reader.specs.declared.Fault.{Fault}
 use Rattle.reader.specs.Place.{Place}
 use Rattle.reader.specs.Fault.{accepted, fault, condition}
-use Rattle.checks.specs.Reasons.{number_of_reason}
+use Rattle.reader.specs.Reasons.{number_of_reason}
 use Rattle.reader.specs.Told.{place_of}
 use Rattle.report.specs.Error.{code, condition_text, reply_err}
 

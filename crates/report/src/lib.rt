@@ -5,12 +5,12 @@ ghost use Rattle.std.specs.Prelude.{◌≡◌, [], ◌∷◌, ◌+◌, ◌≤◌
 ghost use Rattle.text.specs.Bytes.{pick, byte};
 ghost use Rattle.text.specs.Decimal.{decimal};
 ghost use Rattle.text.specs.Writes.{Writes};
-ghost use Rattle.checks.specs.Reasons.{number_of_reason};
+ghost use Rattle.reader.specs.Reasons.{number_of_reason};
 ghost use Rattle.reader.specs.Told.{place_of};
 ghost use Rattle.report.specs.Error.{place_text};
 ghost use Rattle.report.specs.Inner.{code_of, error_of, error_text, condition_words};
 
-use reader::{Fault, Place, Reason, condition};
+use reader::{Fault, Place, condition};
 use text::Writer;
 
 // From this condition on a message is rejected.
@@ -23,7 +23,7 @@ pub fn put_code(w: &mut Writer, fault: Option<Fault>)
 {
     match fault {
         None => w.put(b"MSA|AA|"),
-        Some(f) if condition(u8::from(f.reason)) < FIRST_REJECTION => w.put(b"MSA|AE|"),
+        Some(f) if f.condition() < FIRST_REJECTION => w.put(b"MSA|AE|"),
         Some(_) => w.put(b"MSA|AR|"),
     }
 }
@@ -59,10 +59,10 @@ fn put_place(w: &mut Writer, p: Place)
 }
 
 // The condition of a reason, its text, and the table they stand in.
-fn condition_words(reason: Reason) -> &'static [u8]
-    ensures { result.now ≡ condition_words (number_of_reason reason) }
+fn condition_words(reason: u8) -> &'static [u8]
+    ensures { result.now ≡ condition_words reason }
 {
-    match condition(u8::from(reason)) {
+    match condition(reason) {
         100 => b"100^Segment sequence error^HL70357",
         101 => b"101^Required field missing^HL70357",
         102 => b"102^Data type error^HL70357",
@@ -83,7 +83,7 @@ fn put_fault(w: &mut Writer, f: Fault)
     w.put(b"ERR||");
     put_place(w, f.place);
     w.put(b"|");
-    w.put(condition_words(f.reason));
+    w.put(condition_words(f.condition()));
     w.put(b"|E\r");
 }
 

@@ -3,7 +3,7 @@ use native.Mathlib.Omega.{arith}
 use Rattle.text.proofs.Writes.{writes-both, writes-length}
 use lib.ListN.{length}
 use mathlib.Core.Path.{ap}
-use Rattle.checks.specs.Reasons.{number_of_reason}
+use Rattle.reader.specs.Reasons.{number_of_reason}
 use Rattle.reader.specs.Told.{place_of}
 use Rattle.report.proofs.ErrorLaws.{error_written, error_length}
 use Rattle.report.proofs.put_fault.Goals as goal
