@@ -7,24 +7,22 @@ ghost use Rattle.hexes.specs.Hex.{hex_digit, behind, hex_lines};
 
 use text::Writer;
 
-fn hex_digit(n: u8) -> u8
+// A digit: 0 to 9, A to F.
+pub fn hex_digit(n: u8) -> u8
     requires { n < 16 }
     ensures { result ≡ hex_digit n }
 {
-    if n < 10 {
-        return b'0' + n;
+    match n {
+        0..=9 => b'0' + n,
+        _ => b'A' + (n - 10),
     }
-    b'A' + (n - 10)
 }
 
 // What stands after the byte with i before it: sixteen bytes make a line.
 fn gap(i: usize) -> u8
     ensures { result ≡ behind i }
 {
-    if i % 16 == 15 {
-        return b'\n';
-    }
-    b' '
+    if i % 16 == 15 { b'\n' } else { b' ' }
 }
 
 // The lines that tell a slip's bytes. Inner: the program lends three bytes for each of them.

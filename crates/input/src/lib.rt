@@ -18,13 +18,13 @@ pub fn read_full<R: Read>(input: &mut R, out: &mut [u8]) -> io::Result<usize>
     ensures bytes { IfOk result (λ n. Consumes (R.remaining input.old) (R.remaining input.new) (take n out.new)) }
     ensures end { IfOk result (λ n. n < length out.new → IsAtEnd (R.remaining input.new)) }
 {
+    // a loop still: of std's calls `read_exact` tells no count where the input ends, and `read_to_end` wants a heap
     let mut done = 0;
     while done < out.len() {
-        let n = input.read(&mut out[done..])?;
-        if n == 0 {
-            break;
+        match input.read(&mut out[done..])? {
+            0 => break,
+            n => done += n,
         }
-        done += n;
     }
     Ok(done)
 }
@@ -35,56 +35,35 @@ pub struct Window {
     pub from: usize,
     pub seen: usize,
     pub to: usize,
-    // the line is longer than the window, and its front is thrown away
+    // the line is longer than the memory, and its front is thrown away
     pub is_long: bool,
-    pub is_open: bool,
 }
 
-// Moves the bytes that are not answered yet to the front.
-fn move_front(window: &mut [u8], from: usize, to: usize)
-    requires { to ≤ length window.old }
-{
-    if from < to {
-        window.copy_within(from..to, 0);
-    }
-}
-
-// Reads once after what is there, and answers how many bytes came.
-fn read_behind<R: Read>(input: &mut R, window: &mut [u8], at: usize) -> io::Result<usize>
-    requires { at ≤ length window.old }
-    ensures within { IfOk result (λ n. at + n ≤ length window.new) }
-    ensures kept { length window.new ≡ length window.old }
-{
-    input.read(&mut window[at..])
-}
-
-// The window with what comes after the bytes that are kept; no longer open where nothing comes.
-fn more<R: Read>(input: &mut R, window: &mut [u8], kept: usize, is_long: bool) -> io::Result<Window>
-    requires { kept ≤ length window.old }
-    ensures inside { IfOk result (λ w. Inside w (length window.new)) }
-    ensures kept { length window.new ≡ length window.old }
-{
-    let n = read_behind(input, window, kept)?;
-    Ok(Window {
-        from: 0,
-        seen: kept,
-        to: kept + n,
-        is_long,
-        is_open: 0 < n,
-    })
-}
-
-// Reads more. Of a line that fills the window nothing is kept but that it is too long.
-// Inner: the callers hold that the window lies in its memory.
-pub fn refill<R: Read>(input: &mut R, window: &mut [u8], w: Window) -> io::Result<Window>
-    requires { Inside w (length window.old) }
-    ensures inside { IfOk result (λ w. Inside w (length window.new)) }
-    ensures kept { length window.new ≡ length window.old }
+// Moves what is not answered yet to the front and reads once behind it, and answers whether anything came. Of a line that fills the memory
+// nothing is kept but that it is too long. Inner: the callers hold that the window lies in its memory.
+pub fn refill<R: Read>(input: &mut R, memory: &mut [u8], w: &mut Window) -> io::Result<bool>
+    requires { Inside w.old (length memory.old) }
+    ensures inside { Inside w.new (length memory.new) }
+    ensures kept { length memory.new ≡ length memory.old }
 {
     let kept = w.to - w.from;
-    if kept == window.len() {
-        return more(input, window, 0, true);
+    if kept < memory.len() {
+        memory.copy_within(w.from..w.to, 0);
+        *w = Window {
+            from: 0,
+            seen: kept,
+            to: kept,
+            is_long: w.is_long,
+        };
+    } else {
+        *w = Window {
+            from: 0,
+            seen: 0,
+            to: 0,
+            is_long: true,
+        };
     }
-    move_front(window, w.from, w.to);
-    more(input, window, kept, w.is_long)
+    let n = input.read(&mut memory[w.to..])?;
+    w.to += n;
+    Ok(0 < n)
 }

@@ -4,22 +4,25 @@ use Prim.Native.Nat.{ℕ, suc, ◌+◌}
 use native.Mathlib.Numerals.{add-one}
 use mathlib.Core.List.{List, [], ◌∷◌}
 use lib.ListN.{get_or}
-use borrow.Author.Tests.{eq-eqb, ne_eqb}
+use Rattle.std.proofs.Common.{Option, None, Some, Result, Ok, Err}
+use Rattle.std.specs.Result.{result_err}
 use Rattle.text.specs.Bytes.{Text, within}
 use Rattle.text.specs.declared.marks.Marks.{Marks}
 use Rattle.text.specs.Marks.{marks_of}
 use Rattle.frame.specs.Segments.{name}
 use Rattle.profile.specs.Numbers.{segment_number, table_of}
 use Rattle.reader.specs.declared.Fault.{Fault}
-use Rattle.std.proofs.Common.{Some}
 use Rattle.segments.specs.declared.Finding.{Finding}
 use Rattle.walk.specs.declared.Halt.{Halt}
 use Rattle.checks.specs.Place.{place}
 use Rattle.checks.specs.Fault.{accepted, fault}
+use Rattle.checks.specs.Reasons.{number_of_reason}
+use Rattle.checks.specs.declared.reasons.Reason.TheVariants as reason
+use Rattle.walk.specs.declared.Why.TheVariants as why
 use Rattle.reader.specs.Told.{verdict_told}
-use Rattle.segments.specs.Judged.{told_at, ReadsSegment}
+use Rattle.segments.specs.Judged.{told_at, at_repetition, ReadsSegment}
 use Rattle.listing.specs.Listing.{name_at, count_before, HasNumber, Here}
-use Rattle.walk.specs.Judged.{number_at, field_broken, segment_reason, halt_verdict}
+use Rattle.walk.specs.Judged.{number_at, halt_verdict}
 use Rattle.walk.proofs.Walking.{named-there, named-inside, three-bytes}
 
 -- the number of the name that stands there
@@ -39,24 +42,27 @@ module _ (table : List ℕ) (m : Text) (h : Halt) where
   o = suc (count_before m h.start x)
 
   -- what is found, told of that segment, is the verdict where reading stopped
-  abbrev pub IsVerdict : Finding → Type 0
+  abbrev pub IsVerdict : Result Unit Finding → Type 0
   IsVerdict r = told_at x o r ≡ halt_verdict (table_of table) m h
 
-  pub field-verdict : h.why ≡ field_broken → (q : Marks) → q ≡ marks_of m → (f r : Finding) → ReadsSegment q (table_of table) (within h.start h.end m) f → r ≡ f
-      → IsVerdict r
-  field-verdict e q is f r read same = rw (same, e, ← is) (read x o)
+  pub place-verdict : h.why ≡ why.OutOfPlace → IsVerdict (Err (at_repetition reason.OutOfPlace 0 0))
+  place-verdict e = rw e
 
-  pub segment-verdict : (h.why ≡ field_broken → ⊥) → (a : ℕ) → a ≡ segment_reason h.why → (r : Finding)
-      → r ≡ record { reason = a; field = 0; repetition = 0; component = 0; subcomponent = 0 } → IsVerdict r
-  segment-verdict n a e r same = rw (same, e, ne_eqb h.why field_broken n)
+  pub end-verdict : h.why ≡ why.MayNotEnd → IsVerdict (Err (at_repetition reason.MayNotEnd 0 0))
+  end-verdict e = rw e
 
-  module _ (r : Finding) (is : IsVerdict r) where
-    pub halted_good : r.reason ≡ 0 → accepted ≡ halt_verdict (table_of table) m h
-    halted_good e = rw (← is, eq-eqb r.reason 0 e)
+  -- what reading the segment finds
+  module _ (broken : h.why ≡ why.FieldBroken) (q : Marks) (is : q ≡ marks_of m) where
+    pub field-verdict : (r : Result Unit Finding) → ReadsSegment q (table_of table) (within h.start h.end m) r → (f : Finding) → result_err r ≡ Some f → IsVerdict (Err f)
+    field-verdict (Ok u) read f e = cc
+    field-verdict (Err g) read f e = let same : g ≡ f = cc in rw (broken, ← is, ← same) (read x o)
 
-    pub halted_fault : (r.reason ≡ 0 → ⊥) → Here m h.start h.end (number_at m h.start h.end) → (a : ℕ) (v : Fault)
-        → a ≡ count_before m h.start (name_at m h.start) + 1
-        → verdict_told (Some v) ≡ fault (place (name_at m h.start) a r.field r.repetition r.component r.subcomponent) r.reason
-        → verdict_told (Some v) ≡ halt_verdict (table_of table) m h
-    halted_fault n here a v e f =
-        f ∙ rw (e, named-there m h.start h.end (number_at m h.start h.end) here, add-one) (rw (← is, ne_eqb r.reason 0 n))
+    pub field-good : (r : Result Unit Finding) → ReadsSegment q (table_of table) (within h.start h.end m) r → result_err r ≡ None → accepted ≡ halt_verdict (table_of table) m h
+    field-good (Ok u) read e = rw (broken, ← is) (read x o)
+    field-good (Err g) read e = cc
+
+  pub halted_fault : (r : Finding) → IsVerdict (Err r) → Here m h.start h.end (number_at m h.start h.end) → (v : Option Fault)
+      → verdict_told v
+      ≡ fault (place (name_at m h.start) (count_before m h.start (name_at m h.start) + 1) r.field r.repetition r.component r.subcomponent) (number_of_reason r.reason)
+      → verdict_told v ≡ halt_verdict (table_of table) m h
+  halted_fault r is here v f = f ∙ rw (named-there m h.start h.end (number_at m h.start h.end) here, add-one) is

@@ -12,7 +12,8 @@ use Rattle.text.proofs.Answer.{first-refused, first-given, given-passes}
 use Rattle.frame.specs.Segments.{segments, name}
 use Rattle.frame.specs.Frame.{frame_tests, framed}
 use Rattle.frame.specs.Told.{framing_of}
-use Rattle.std.proofs.Common.{Option, Result, Ok, Err}
+use Rattle.std.proofs.Common.{subst, Option, None, Some, Result, Ok, Err}
+use Rattle.std.specs.Result.{result_err}
 use Rattle.frame.proofs.Header.{header-opens}
 use Rattle.profile.specs.Table.{Table, is_listed, may_follow}
 use Rattle.profile.specs.Numbers.{AreTable, table_of, number_in, segment_number}
@@ -20,10 +21,10 @@ use Rattle.profile.specs.Order.{Sound}
 use Rattle.reader.specs.declared.Fault.{Fault}
 use Rattle.walk.specs.declared.Halt.{Halt}
 use Rattle.checks.specs.View.{listed_segments, view}
-use Rattle.checks.specs.Fault.{checks, verdict, judge}
+use Rattle.checks.specs.Fault.{accepted, checks, verdict, judge}
 use Rattle.reader.specs.Told.{verdict_told}
 use Rattle.listing.specs.Listing.{Here, Next}
-use Rattle.walk.specs.Judged.{halt_verdict, Counts, Walks}
+use Rattle.walk.specs.Judged.{number_at, halt_verdict, walk_verdict, Counts, Walks}
 use Rattle.codes.proofs.Rules.{are_same_table, listed-number}
 
 module _ (t : List ℕ) (m : Text) (sound : Sound t) (good : framed m ≡ true) where
@@ -52,15 +53,9 @@ module _ (t : List ℕ) (m : Text) (sound : Sound t) (good : framed m ≡ true) 
         ap name e ∙ (header-opens m good).1
 
     -- it is the header
-    pub headed-here : Here m start end 1
+    pub headed-number : k ≡ 1
     unfolding number_in same
-    headed-here =
-        record {
-          opens = next.here.opens;
-          ends = next.here.ends;
-          high = next.here.high;
-          number = (ap segment_number named-header, omega arith);
-        }
+    headed-number = sym next.here.number.0 ∙ ap segment_number named-header
 
     header-first : may_follow T [] (name (within start end m)) ≡ true
     unfolding table_of some same
@@ -70,9 +65,21 @@ module _ (t : List ℕ) (m : Text) (sound : Sound t) (good : framed m ≡ true) 
     unfolding keep
     counts-none n l = omega (arith, next.counts n l)
 
-    pub headed-walk : (h : Halt) → Walks T m start end h → halt_verdict T m h ≡ verdict T m
+    pub headed-walk : (r : Result Unit Halt) → Walks T m start end r → walk_verdict T m r ≡ verdict T m
     unfolding verdict checks view
-    headed-walk h w = w.same [] [] counts-none header-first ∙ rw next.first
+    headed-walk r w = w.same [] [] counts-none header-first ∙ rw next.first
+
+    -- reading stopped nowhere, or there
+    pub headed-good : (r : Result Unit Halt) → Walks T m start end r → result_err r ≡ None → accepted ≡ verdict T m
+    headed-good (Ok u) w e = headed-walk (Ok u) w
+    headed-good (Err h) w e = cc
+
+    pub headed-stop : (r : Result Unit Halt) (h : Halt) → Walks T m start end r → result_err r ≡ Some h
+        → (halt_verdict T m h ≡ verdict T m) × Here m h.start h.end (number_at m h.start h.end)
+    headed-stop (Ok u) h w e = absurd (let z : ◌≡◌ {A = ℕ} 0 1 = cc in omega arith)
+    headed-stop (Err g) h w e =
+        let same : g ≡ h = cc in
+        subst (λ (k : Halt). (halt_verdict T m k ≡ verdict T m) × Here m k.start k.end (number_at m k.start k.end)) same (headed-walk (Err g) w, w.here)
 
 -- ---- the frame's tests, then the verdict
 

@@ -6,7 +6,7 @@ use mathlib.Core.Bool.{Bool, true, false, not, ◌&&◌}
 use mathlib.Core.List.{List, [], ◌∷◌}
 use lib.ListN.{length, drop, length-take, length-drop}
 use borrow.Author.Tests.{not-true, not-false}
-use Rattle.text.specs.Bytes.{Text, within}
+use Rattle.text.specs.Bytes.{Text}
 use Rattle.text.specs.Ranges.{◌to◌, is_within}
 use Rattle.text.proofs.Tests.{both, within_low}
 use Rattle.text.specs.Answer.{Answer, refused, given, Test, test, first}
@@ -23,12 +23,11 @@ use Rattle.std.specs.Option.{ok_or}
 use Rattle.text.specs.declared.span.Span.{Span}
 use Rattle.frame.specs.Told.{framing_of}
 use Rattle.reader.specs.Copied.{standing}
-use Rattle.reader.proofs.Seek.{standing-missing, standing_enough, standing-start, standing-inside, standing-text}
+use Rattle.reader.proofs.Seek.{standing-missing, standing_enough, standing-start, standing-text}
 use Rattle.reader.specs.declared.Place as code
 use Rattle.seek.specs.declared.Found as code-found
 use Rattle.checks.specs.LookUp.{Found, Empty, text_from_to, shown, found, too_few, look_up_tests, look_up}
-use Rattle.seek.specs.Inner.{LiesIn, segment, leaf_found}
-use Rattle.seek.specs.Told.{found_told}
+use Rattle.seek.specs.Inner.{segment, leaf_found}
 use Rattle.reader.specs.Told.{place_of, found_of}
 use Rattle.reader.specs.Inner.{Inside, numbers_of}
 use Rattle.checks.proofs.Stands.{text-is, text-stands, found-is}

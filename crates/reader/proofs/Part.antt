@@ -10,7 +10,7 @@ use Rattle.text.specs.Answer.{given}
 use Rattle.text.proofs.Answer.{first-asked}
 use Rattle.reader.specs.declared.Place as code
 use Rattle.seek.specs.declared.Found as code-found
-use Rattle.std.proofs.Common.{Result, Ok, Err}
+use Rattle.std.proofs.Common.{Result, Ok}
 use Rattle.text.specs.declared.refusal.Refusal.{Refusal}
 use Rattle.text.specs.declared.span.Span.{Span}
 use Rattle.reader.specs.declared.search.LookedUp.{LookedUp}

@@ -1,6 +1,6 @@
 -- Inner: no entry's promise is made of this.
 -- Where a segment stands, and what copying one of its leaves takes.
-use Rattle.std.specs.Prelude.{ℕ, ◌≤◌, [], length, Option, None, Some}
+use Rattle.std.specs.Prelude.{ℕ, [], Option, None, Some}
 use Rattle.text.specs.Bytes.{Text, pick}
 use Rattle.text.specs.declared.span.Span.{Span}
 use Rattle.parts.specs.Span.{span}

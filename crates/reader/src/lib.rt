@@ -1,6 +1,7 @@
 // Places, look-up and judging.
 #![tactic(auto)]
 
+mod faults;
 mod judging;
 mod places;
 mod search;
@@ -8,6 +9,7 @@ mod standing;
 mod texts;
 
 pub use checks::condition;
+pub use checks::reasons::Reason;
 pub use cutting::{behind, field_leaf, first_leaf, first_repetition};
 pub use groups::observations;
 pub use judging::judge;
@@ -33,5 +35,5 @@ pub struct Place {
 #[derive(Clone, Copy, Debug, PartialEq, Eq)]
 pub struct Fault {
     pub place: Place,
-    pub reason: u8,
+    pub reason: Reason,
 }

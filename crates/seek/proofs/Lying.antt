@@ -25,25 +25,13 @@ use Rattle.frame.specs.Starts.{field_start}
 use Rattle.frame.proofs.Segments.{field-header, field-other}
 use Rattle.checks.specs.Starts.{leaf_start}
 use Rattle.checks.proofs.Leaf.{leaf-split, leaf-one}
-use Rattle.checks.specs.Shown.{Found, Empty, text_from_to, shown}
+use Rattle.checks.specs.Shown.{Found, Empty, shown}
 use Rattle.seek.specs.Inner.{leaf_found, leaf_behind}
 
--- what is shown of a text: by its start and its length
-pub shown-none : (k : ℕ) (t : Text) → length t ≡ 0 → Empty ≡ shown k t
+-- no bytes are shown as Empty
+shown-none : (k : ℕ) (t : Text) → length t ≡ 0 → Empty ≡ shown k t
 shown-none k [] e = refl
 shown-none k (b ∷ t) e = absurd (omega arith)
-
-pub shown-some : (k a e : ℕ) (t : Text) → a < e → a ≡ k → e ≡ k + length t → text_from_to a e ≡ shown k t
-shown-some k a e [] l p r = absurd (omega arith)
-shown-some k a e (b ∷ t) l p r = rw (p, r)
-
-module _ (p : Span) (k : ℕ) (t : Text) (is : p ≡ span k t) where
-  pub between-some : p.start < p.end → text_from_to p.start p.end ≡ shown k t
-  between-some l = shown-some k p.start p.end t l (ap (λ (s : Span). s.start) is) (ap (λ (s : Span). s.end) is)
-
-  pub between_none : p.end ≤ p.start → Empty ≡ shown k t
-  between_none l =
-      shown-none k t (omega (arith, ap (λ (s : Span). s.start) is, ap (λ (s : Span). s.end) is))
 
 -- bytes a up to b of a segment of so many bytes: they begin there, unless there are none
 pub shown-clipped : (k a b l : ℕ) (t : Text) → a < b → length t ≡ min b l - a → shown (k + min a l) t ≡ shown (k + a) t

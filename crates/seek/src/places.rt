@@ -16,7 +16,7 @@ const MOST_NUMBER: u64 = 255;
 fn is_within(low: u64, high: u64, n: u64) -> bool
     ensures { result ≡ is_within (low to high) n }
 {
-    (low <= n) & (n <= high)
+    (low..=high).contains(&n)
 }
 
 // A name of the form, and every number within its limits.

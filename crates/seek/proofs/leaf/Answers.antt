@@ -5,9 +5,6 @@ use Rattle.text.specs.Bytes.{within}
 use Rattle.seek.proofs.Lying.{leaf_fields}
 use Rattle.seek.proofs.leaf.Goals as goal
 
-pub header_leaf-requires-clause-of_header : goal.header_leaf-requires-clause-of_header
-header_leaf-requires-clause-of_header c = sym c.is_header.ensures ∙ c.if-is_header.true
-
 pub returns : goal.returns
 returns c = leaf_fields c.args.q c.args.n c.args.s.start (within c.args.s.start c.args.s.end c.args.m.now) (found_told c.leaf_behind.result)
     (sym c.is_header.ensures ∙ c.if-is_header.false) c.leaf_behind.ensures

@@ -7,9 +7,6 @@ use Rattle.book.proofs.reading.find_value.Goals as goal
 pub returns-then-no_slot : goal.returns-then-no_slot
 returns-then-no_slot c = read_no_slot c.args.book.now c.args.slot c.args.tag (sym c.no_slot.ensures ∙ c.if-no_slot.true)
 
-pub slot_start-base-requires : goal.slot_start-base-requires
-slot_start-base-requires c = sym c.no_slot.ensures ∙ c.if-no_slot.false
-
 pub returns : goal.returns
 returns c = read-slot c.args.book.now c.args.slot c.args.tag (sym c.no_slot.ensures ∙ c.if-no_slot.false)
     c.slot_start-base.result c.slot_start-base.ensures.0 (value_of c.read_in.result) c.read_in.ensures

@@ -25,20 +25,6 @@ returns-then-no_slot c =
     own-slot c.args.m.now c.args.group c.args.slot c.args.book.now _ (stands (goal.at.returns-then-no_slot c).In_ok-order)
     (sym c.no_slot.ensures ∙ c.if-no_slot.true)
 
-pub fill_group-requires : goal.fill_group-requires
-fill_group-requires c =
-    record {
-      is_accepted = c.requires;
-      of_group = (c.args.group, stands (goal.at.fill_group-requires c).In_ok-order);
-      zeros = refl;
-    }
-
-pub slot_start-at-requires : goal.slot_start-at-requires
-slot_start-at-requires c = sym c.no_slot.ensures ∙ c.if-no_slot.false
-
-pub put-requires : goal.put-requires
-put-requires c = omega (arith, c.slot_start-at.ensures)
-
 pub returns : goal.returns
 returns c =
     let o = stands (goal.at.returns c).In_ok-order in
