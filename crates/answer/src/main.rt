@@ -14,7 +14,6 @@ use reply::limits;
 use std::env::Env;
 use std::io;
 use std::io::Read;
-use text::Written;
 
 // A stamp and a reply number are shorter.
 const LONGEST_ARGUMENT: usize = 32;
@@ -25,22 +24,22 @@ fn tell(m: &[u8], stamp: &[u8], number: &[u8], out: &mut [u8]) -> usize
     ensures { Shows result out.new (answer_text (reply profile01 m.now stamp.now number.now (length out.old))) }
 {
     match reply::reply(m, stamp, number, out) {
-        Written::Refused(r) => line::refused_line(r, out),
-        Written::Bytes(n) => n,
+        Err(r) => line::refused_line(r, out),
+        Ok(n) => n,
     }
 }
 
 // An argument longer than its buffer is given as no bytes: a bad stamp, a bad reply number.
 fn answer<R: Env + Print>(rt: &R, input: &mut impl Read) -> io::Result<()> {
-    let mut stamp = [0u8; LONGEST_ARGUMENT];
-    let s = argument(rt, 1, &mut stamp);
-    let mut number = [0u8; LONGEST_ARGUMENT];
-    let k = argument(rt, 2, &mut number);
+    let mut room = [0u8; LONGEST_ARGUMENT];
+    let stamp = argument(rt, 1, &mut room);
+    let mut room = [0u8; LONGEST_ARGUMENT];
+    let number = argument(rt, 2, &mut room);
     let mut message = [0u8; MESSAGE_ROOM];
     let n = read_full(input, &mut message)?;
     // room for every reply
     let mut out = [0u8; limits::LONGEST_REPLY];
-    let end = tell(&message[..n], &stamp[..s], &number[..k], &mut out);
+    let end = tell(&message[..n], stamp, number, &mut out);
     rt.write_all(&out[..end])
 }
 

@@ -6,7 +6,7 @@ ghost use Rattle.cabi.specs.Promise.{JudgeTells, LookUpTells, ResolveTells, Repl
 
 use book::find_value;
 use escape::resolve;
-use numbers::{place_asked, tell_filed, tell_found, tell_value, tell_verdict, tell_written};
+use numbers::{place_asked, tell};
 use reader::{find, judge};
 use slip::file;
 
@@ -14,21 +14,21 @@ use slip::file;
 pub fn ithwyral_judge(m: &[u8], out: &mut [u64; 10]) -> u8
     ensures { JudgeTells profile01 m.now out.old result out.new }
 {
-    tell_verdict(judge(m), out)
+    tell(judge(m), out)
 }
 
 // Looks up a place: a name, and occurrence, field, repetition, component and subcomponent.
 pub fn ithwyral_look_up(m: &[u8], name: &[u8], place: &[u64; 5], out: &mut [u64; 3]) -> u8
     ensures { LookUpTells m.now name.now place.now out.old result out.new }
 {
-    tell_found(find(m, place_asked(name, place)), out)
+    tell(find(m, place_asked(name, place)), out)
 }
 
 // Resolves a text into the buffer.
 pub fn ithwyral_resolve(text: &[u8], buffer: &mut [u8], out: &mut [u64; 1]) -> u8
     ensures { ResolveTells text.now buffer.old out.old result buffer.new out.new }
 {
-    tell_written(resolve(text, buffer), out)
+    tell(resolve(text, buffer), out)
 }
 
 // Writes the reply to a message into the buffer.
@@ -41,19 +41,19 @@ pub fn ithwyral_reply(
 ) -> u8
     ensures { ReplyTells profile01 m.now stamp.now number.now buffer.old out.old result buffer.new out.new }
 {
-    tell_written(reply::reply(m, stamp, number, buffer), out)
+    tell(reply::reply(m, stamp, number, buffer), out)
 }
 
 // Files the slip of a group in a slot of the book.
 pub fn ithwyral_file(m: &[u8], group: u64, slot: usize, book: &mut [u8]) -> u8
     ensures { FileTells profile01 m.now group slot book.old result book.new }
 {
-    tell_filed(file(m, group, slot, book))
+    tell(file(m, group, slot, book), &mut [])
 }
 
 // Reads the value of a tag of the slip in a slot.
 pub fn ithwyral_read_slip(book: &[u8], slot: usize, tag: u64, out: &mut [u64; 2]) -> u8
     ensures { ReadTells book.now slot tag out.old result out.new }
 {
-    tell_value(find_value(book, slot, tag), out)
+    tell(find_value(book, slot, tag), out)
 }

@@ -6,7 +6,7 @@ ghost use Rattle.text.specs.Puts.{Puts};
 ghost use Rattle.profile.specs.Profile.{profile01};
 ghost use Rattle.chart.specs.Chart.{page};
 
-use asked::{Asked, argument, argument_count, number_at};
+use asked::{argument, argument_count, number_at};
 use std::env::Env;
 use std::io;
 
@@ -32,34 +32,23 @@ fn show(rt: &impl Print, name: &[u8], field: u64, component: u64) -> io::Result<
     rt.write_all(&out[..end])
 }
 
-// The number that argument i writes; 0, which no field and no component has, where it writes none.
-fn number_or_none(rt: &impl Env, i: usize) -> u64 {
-    match number_at(rt, i) {
-        Asked::Bad => 0,
-        Asked::Number(n) => n,
+// The place that the arguments name: a segment's name, a field, and a component, which is 0 where none is named. A name of more than three bytes comes as no
+// bytes; no field and no component has the number 0.
+fn asked_place<'a>(rt: &impl Env, count: usize, room: &'a mut [u8; 3]) -> Option<(&'a [u8], u64, u64)> {
+    let field = number_at(rt, 2).filter(|n| *n != 0)?;
+    let component = match count {
+        3 => 0,
+        4 => number_at(rt, 3).filter(|n| *n != 0)?,
+        _ => return None,
+    };
+    let name = argument(rt, 1, room);
+    let [a, b, c] = name else {
+        return None;
+    };
+    if !frame::is_name(*a, *b, *c) {
+        return None;
     }
-}
-
-// Shows the lists of the place that the arguments name, and answers whether they name one. A name of more than three bytes comes as no bytes.
-fn shows_place<R: Env + Print>(rt: &R, count: usize) -> io::Result<bool> {
-    let mut name = [0u8; 3];
-    let n = argument(rt, 1, &mut name);
-    let field = number_or_none(rt, 2);
-    let mut component = 0;
-    if count == 4 {
-        component = number_or_none(rt, 3);
-        if component == 0 {
-            return Ok(false);
-        }
-    }
-    if (n != 3) | (field == 0) {
-        return Ok(false);
-    }
-    if !frame::is_name(name[0], name[1], name[2]) {
-        return Ok(false);
-    }
-    show(rt, &name, field, component)?;
-    Ok(true)
+    Some((name, field, component))
 }
 
 fn main(rt: HostRuntime) -> io::Result<()> {
@@ -67,10 +56,9 @@ fn main(rt: HostRuntime) -> io::Result<()> {
     if count == 1 {
         return show(&rt, b"", 0, 0);
     }
-    if (count == 3) | (count == 4) {
-        if shows_place(&rt, count)? {
-            return Ok(());
-        }
+    let mut room = [0u8; 3];
+    match asked_place(&rt, count, &mut room) {
+        Some((name, field, component)) => show(&rt, name, field, component),
+        None => println!(rt; "usage: codes [NAME FIELD [COMPONENT]]"),
     }
-    println!(rt; "usage: codes [NAME FIELD [COMPONENT]]")
 }

@@ -18,7 +18,7 @@ use Rattle.profile.specs.Fields.{rows}
 use Rattle.profile.specs.Profile.{profile01}
 use Rattle.reader.specs.View.{segment_seen, view}
 use Rattle.reader.specs.Fault.{Check, field_checks, count, walk, checks}
-use Rattle.reader.specs.declared.Verdict.TheVariants.{Accepted}
+use Rattle.std.proofs.Common.{None, Ok}
 use Rattle.reader.specs.Promise.{Judges}
 use Rattle.parts.proofs.Members.{append-all, picked}
 use Rattle.reader.proofs.Accepted.{judged-accepted}
@@ -173,12 +173,12 @@ module _ (q : Marks) where
   none_before (s ∷ ss) ns last o a = listed-step s ss (none_before ss) ns last (listed s) refl o a
 
 -- NO OBX OF AN ACCEPTED MESSAGE stands before its first OBR
-accepted-before : (m : Text) → Judges profile01 m Accepted → observations (segments m) ≡ 0
+accepted-before : (m : Text) → Judges profile01 m (Ok None) → observations (segments m) ≡ 0
 unfolding checks view some same
 accepted-before m j =
     none_before (marks_of m) (segments m) [] [] refl
     (every-all (λ (c : Check). not c.broken) (checks profile01 m) (judged-accepted profile01 m (sym j)).1)
 
 -- so THE COUNTS OF ITS GROUPS together are its OBX
-pub counts_all : (m : Text) → Judges profile01 m Accepted → together m (groups m) ≡ observations_in m
+pub counts_all : (m : Text) → Judges profile01 m (Ok None) → together m (groups m) ≡ observations_in m
 counts_all m j = omega (arith, together-all m, accepted-before m j)

@@ -4,24 +4,24 @@ use Prim.Native.Nat.{ℕ, ◌+◌}
 use mathlib.Core.List.{List, [], ◌∷◌, ◌++◌}
 use lib.ListN.{length}
 use denote.Ref.{Bor}
+use Rattle.std.proofs.Common.{Result, Ok, Err}
 use Rattle.text.specs.Bytes.{Text, within}
-use Rattle.text.specs.Answer.{Answer, refused, given, Test, first, tell, buffer_after, written_of}
+use Rattle.text.specs.Answer.{Answer, refused, given, Test, first, tell, buffer_after, answer_of, written_of}
 use Rattle.text.specs.Marks.{usual}
 use Rattle.escape.specs.Escape.{resolve_tests, resolved, resolve}
 use Rattle.escape.specs.Promise.{Resolves}
 use Rattle.text.specs.declared.refusal.Refusal.{Refusal}
-use Rattle.text.specs.declared.Written.{Written}
-use Rattle.text.specs.declared.Written.TheVariants as written
+use Rattle.text.specs.declared.span.Span.{Span}
 use Rattle.text.proofs.Answer.{given-passes, told-refused, tell-first}
 use Rattle.text.proofs.First.{first-refusal}
 use Rattle.escape.proofs.Unique.{resolve_unique}
 use Rattle.frame.specs.Frame.{frame_tests}
 use Rattle.profile.specs.Profile.{profile01}
 use Rattle.reader.specs.declared.Place.{Place}
-use Rattle.reader.specs.declared.Found as code-found
+use Rattle.reader.specs.Found as code-found
 use Rattle.reader.specs.LookUp.{Found, Empty, text_from_to, found, look_up_tests, look_up}
 use Rattle.reader.specs.Fault.{verdict, judge}
-use Rattle.reader.specs.Told.{place_of, found_of, verdict_of}
+use Rattle.reader.specs.Told.{place_of, found_told, found_of, verdict_of}
 use Rattle.text.specs.Part.{VeryPart}
 use Rattle.reader.specs.Part as part
 use Rattle.reader.specs.Promise.{LooksUp, Judges}
@@ -29,16 +29,12 @@ use Rattle.reader.proofs.Unique.{judge_unique, look_up_unique}
 use Rattle.reply.specs.Reply.{reply_tests, reply_text, reply}
 use Rattle.reply.specs.Promise.{Replies}
 use Rattle.reply.proofs.Unique.{reply_unique}
-use Rattle.slip.specs.declared.Filed.{Filed}
-use Rattle.slip.specs.declared.Filed.TheVariants as filed
 use Rattle.slip.specs.Slot.{slot_start}
 use Rattle.slip.specs.Slip.{slip_text}
 use Rattle.slip.specs.Book.{file_tests, file, book_after}
 use Rattle.slip.specs.Told.{filed_of}
 use Rattle.slip.specs.Promise.{Files}
 use Rattle.slip.proofs.Unique.{file_unique}
-use Rattle.book.specs.declared.Value.{Value}
-use Rattle.book.specs.declared.Value.TheVariants as value
 use Rattle.book.specs.Read.{Part, slot, expected, value_from, or_nothing, read_tests, read_slip}
 use Rattle.book.specs.Told.{value_of, start_of, end_of}
 use Rattle.book.specs.Promise.{ReadsSlip}
@@ -84,22 +80,26 @@ module _ {R A : Type 0} (told : R → Answer A) (by : Answer A → R) (back : (a
           untouched = untouched;
         }
 
--- the answer of a call, from what is told of it
-abbrev written_by : Answer ℕ → Written
-written_by (refused r) = written.Refused r
-written_by (given n) = written.Bytes n
+-- the result of a call, from what is told of it: by gives the value that tells a
+abbrev result_by : {A B : Type 0} → (A → B) → Answer A → Result B Refusal
+result_by by (refused r) = Err r
+result_by by (given a) = Ok (by a)
+
+result_back : {A B : Type 0} (told : B → A) (by : A → B) → ((a : A) → told (by a) ≡ a) → (a : Answer A) → answer_of told (result_by by a) ≡ a
+result_back told by back (refused r) = refl
+result_back told by back (given a) = ap given (back a)
+
+abbrev written_by : Answer ℕ → Result ℕ Refusal
+written_by a = result_by (λ n. n) a
 
 written_back : (a : Answer ℕ) → written_of (written_by a) ≡ a
-written_back (refused r) = refl
-written_back (given n) = refl
+written_back a = result_back (λ n. n) (λ n. n) (λ n. refl) a
 
-abbrev filed_by : Answer Unit → Filed
-filed_by (refused r) = filed.Refused r
-filed_by (given u) = filed.Slip
+abbrev filed_by : Answer Unit → Result Unit Refusal
+filed_by a = result_by (λ u. tt) a
 
 filed_back : (a : Answer Unit) → filed_of (filed_by a) ≡ a
-filed_back (refused r) = refl
-filed_back (given u) = refl
+filed_back a = result_back (λ u. tt) (λ u. tt) (λ u. refl) a
 
 resolve-writes : (t before : Text) → Writes (Resolves t before) before written_of (20 ∷ 14 ∷ []) (resolve_tests usual t (length before))
 unfolding resolve
@@ -138,23 +138,25 @@ part_of m a e = record { ref_ptr = (m.ref_ptr.0, m.ref_ptr.1 + a); now = within 
 very_part : (m : Bor Text) (a e : ℕ) → VeryPart (part_of m a e) m a e
 very_part m a e = record { bytes = refl; block = refl; offset = refl }
 
-abbrev found_by : Answer Found → code-found.Found
-found_by (refused r) = code-found.TheVariants.Refused r
-found_by (given Empty) = code-found.TheVariants.Empty
-found_by (given (text_from_to a e)) = code-found.TheVariants.Text a e
+abbrev seen_by : Found → code-found.Found
+seen_by Empty = code-found.TheVariants.Empty
+seen_by (text_from_to a e) = code-found.TheVariants.Text (record { start = a; end = e })
+
+seen_back : (f : Found) → found_told (seen_by f) ≡ f
+seen_back Empty = refl
+seen_back (text_from_to a e) = refl
+
+abbrev found_by : Answer Found → Result code-found.Found Refusal
+found_by a = result_by seen_by a
 
 found_back : (a : Answer Found) → found_of (found_by a) ≡ a
-found_back (refused r) = refl
-found_back (given Empty) = refl
-found_back (given (text_from_to a e)) = refl
+found_back a = result_back found_told seen_by seen_back a
 
-abbrev value_by : Answer Part → Value
-value_by (refused r) = value.Refused r
-value_by (given p) = value.Part p.start p.end
+abbrev value_by : Answer Part → Result Span Refusal
+value_by a = result_by (λ p. record { start = p.start; end = p.end }) a
 
 value_back : (a : Answer Part) → value_of (value_by a) ≡ a
-value_back (refused r) = refl
-value_back (given p) = refl
+value_back a = result_back _ (λ p. record { start = p.start; end = p.end }) (λ p. refl) a
 
 look_up_answers : (m : Bor Text) (p : Place)
     → Answers (LooksUp m p) same_look_up (λ r. found_of r.sort) (frame_numbers ++ (9 ∷ 10 ∷ [])) (look_up_tests m.now (place_of p))

@@ -10,28 +10,30 @@ use lib.Dec.{ltb}
 use lib.Seq.{take_at, drop_at}
 use denote.Ref.{Bor}
 use borrow.Author.Tests.{not-false, ltb-false}
+use Rattle.std.proofs.Common.{Some, None, Result, Ok, Err}
+use Rattle.std.proofs.Common as std
 use Rattle.text.specs.Bytes.{Text, empty}
 use Rattle.text.specs.Answer.{Answer, given, Test, first, passes, buffer_after, reported}
 use Rattle.text.specs.Marks.{usual}
 use Rattle.types.specs.Types.{is_stamp, is_reply_number}
 use Rattle.escape.specs.Escape.{bad_escape, resolved, resolve_tests, resolve}
 use Rattle.escape.specs.Promise.{Resolves}
-use Rattle.text.specs.declared.Written.TheVariants.{Bytes}
+use Rattle.text.specs.declared.refusal.Refusal.{Refusal}
+use Rattle.text.specs.declared.span.Span.{Span}
 use Rattle.text.proofs.Tests.{not-true, empty-some}
 use Rattle.text.proofs.Answer.{passes-rest, passes-both, first-asked, first-given, given-passes, tell-first}
 use Rattle.frame.specs.Frame.{frame_tests, framed}
 use Rattle.profile.specs.Profile.{profile01}
 use Rattle.reader.specs.declared.Place as code
-use Rattle.reader.specs.declared.Found as code-found
+use Rattle.reader.specs.Found as code-found
 use Rattle.reader.specs.declared.Fault as code-fault
-use Rattle.reader.specs.declared.Verdict.{Verdict}
-use Rattle.reader.specs.declared.Verdict.TheVariants.{Refused, Accepted, Fault}
 use Rattle.reader.specs.declared.search.LookedUp.{LookedUp}
 use Rattle.reader.specs.Place.{Place, stands_at, text_at}
 use Rattle.reader.specs.LookUp.{Empty, text_from_to, found, look_up_tests, look_up}
 use Rattle.reader.specs.Told.{place_of, found_of}
 use Rattle.reader.specs.Fault.{checks, fault, verdict, judge}
 use Rattle.reader.specs.First.{none_broken}
+use Rattle.reader.specs.Reasons.{number_of_reason}
 use Rattle.reader.specs.Promise.{LooksUp, Judges}
 use Rattle.reader.proofs.LookUp.{shown-step, shown-empty}
 use Rattle.reader.proofs.Part.{looked_up_text}
@@ -42,7 +44,6 @@ use Rattle.reply.specs.Reply.{no_control, reply_text, longest_reply, reply_tests
 use Rattle.reply.specs.Promise.{Replies}
 use Rattle.reply.proofs.Bound.{reply_bound}
 use Rattle.slip.specs.Slot.{slot_start, no_slot}
-use Rattle.book.specs.declared.Value as code-value
 use Rattle.book.specs.declared.reading.SlipValue.{SlipValue}
 use Rattle.book.specs.Read.{Part, expected, is_slip, value_from, is_none, or_nothing, slot, read_tests, read_slip}
 use Rattle.book.specs.Told.{value_of}
@@ -52,20 +53,21 @@ use Rattle.demands.specs.Demand2.{Wrote, Stands, Holds, Demand2}
 use Rattle.demands.proofs.Idle.{shut_out}
 
 -- 1. The verdict
-otherwise : (m : Text) (r : Verdict) → Judges profile01 m r → framed m ≡ true → none_broken (checks profile01 m) ≡ false
-    → (f : code-fault.Fault) × (r ≡ Fault f)
+otherwise : (m : Text) (r : Result (std.Option code-fault.Fault) Refusal) → Judges profile01 m r → framed m ≡ true → none_broken (checks profile01 m) ≡ false
+    → (f : code-fault.Fault) × (r ≡ Ok (Some f))
 unfolding judge
-otherwise m (Refused x) h g b =
+otherwise m (Err x) h g b =
     let e = h ∙ first-given (frame_tests m) (verdict profile01 m) g in
     absurd (let z : ◌≡◌ {A = ℕ} 0 1 = cc in omega arith)
-otherwise m Accepted h g b = not-true (sym b ∙ (judged-accepted profile01 m (sym h)).1)
-otherwise m (Fault f) h g b = (f, refl)
+otherwise m (Ok None) h g b = not-true (sym b ∙ (judged-accepted profile01 m (sym h)).1)
+otherwise m (Ok (Some f)) h g b = (f, refl)
 
-reason : (m : Text) (f : code-fault.Fault) → Judges profile01 m (Fault f) → (1 ≤ f.reason) × (f.reason ≤ 13)
+reason : (m : Text) (f : code-fault.Fault) → Judges profile01 m (Ok (Some f)) → (1 ≤ number_of_reason f.reason) × (number_of_reason f.reason ≤ 13)
 unfolding judge
 reason m f h =
     let p = place_of f.place in
-    fault_reason01 m p f.reason (sym (first-asked (frame_tests m) (verdict profile01 m) (fault p f.reason) h))
+    let n = number_of_reason f.reason in
+    fault_reason01 m p n (sym (first-asked (frame_tests m) (verdict profile01 m) (fault p n) h))
 
 -- 2. Looking up
 -- where a text is found, it starts there, and some byte stands there; where Empty is, none
@@ -81,23 +83,23 @@ found_none m p h =
     shown-empty (stands_at m p).start (stands_at m p).text (first-asked (look_up_tests m p) (found m p) Empty h)
 
 module _ (m : Bor Text) (p : code.Place) (r : LookedUp) (l : LooksUp m p r) where
-  sort-told : (f : code-found.Found) → r.sort ≡ f → found_of f ≡ look_up m.now (place_of p)
+  sort-told : (f : Result code-found.Found Refusal) → r.sort ≡ f → found_of f ≡ look_up m.now (place_of p)
   sort-told f s = ap found_of (sym s) ∙ l.sort
 
-  text : (a e : ℕ) → r.sort ≡ code-found.TheVariants.Text a e → Stands m (place_of p) a e r.text
-  text a e s =
-      let t = looked_up_text m p r a e l s in
-      let f = found_some m.now (place_of p) a e (sort-told (code-found.TheVariants.Text a e) s) in
+  text : (t : Span) → r.sort ≡ Ok (code-found.TheVariants.Text t) → Stands m (place_of p) t.start t.end r.text
+  text t s =
+      let b = looked_up_text m p r t l s in
+      let f = found_some m.now (place_of p) t.start t.end (sort-told (Ok (code-found.TheVariants.Text t)) s) in
       record {
         start = f.0;
         end = f.1.0;
-        bytes = t;
-        not-empty = rw t f.1.1;
+        bytes = b;
+        not-empty = rw b f.1.1;
         very_part = rw s at l.text;
       }
 
-  nothing : r.sort ≡ code-found.TheVariants.Empty → text_at m.now (place_of p) ≡ []
-  nothing s = found_none m.now (place_of p) (sort-told code-found.TheVariants.Empty s)
+  nothing : r.sort ≡ Ok code-found.TheVariants.Empty → text_at m.now (place_of p) ≡ []
+  nothing s = found_none m.now (place_of p) (sort-told (Ok code-found.TheVariants.Empty) s)
 
 -- 3. Bytes written
 -- where a number of bytes is told of the first refusal or a text, no refusal applies, and they are that text
@@ -122,7 +124,7 @@ module _ (ts : List Test) (t : Text) (n : ℕ) (answer : given n ≡ reported (f
         rest = ap (drop n) e ∙ (drop_at t rest n (sym size) ∙ ap (λ (k : ℕ). drop k before) (sym size));
       }
 
-resolves : (t before after : Text) (n : ℕ) → Resolves t before (Bytes n) after → Wrote (resolved usual t) before after n
+resolves : (t before after : Text) (n : ℕ) → Resolves t before (Ok n) after → Wrote (resolved usual t) before after n
 unfolding resolve passes
 resolves t before after n h =
     let ts = resolve_tests usual t (length before) in
@@ -144,7 +146,7 @@ bounded m stamp number room e =
       reply_bound m stamp number (not-false (is_stamp stamp) s.0) (not-false (is_reply_number number) n.0) c.0,
     )
 
-replies : (m stamp number before after : Text) (n : ℕ) → Replies profile01 m stamp number before (Bytes n) after
+replies : (m stamp number before after : Text) (n : ℕ) → Replies profile01 m stamp number before (Ok n) after
     → Wrote (reply_text profile01 m stamp number) before after n × (n ≤ longest_reply)
 unfolding reply
 replies m stamp number before after n h =
@@ -158,10 +160,10 @@ some-step : (o : Option Part) → is_none o ≡ false → o ≡ some (or_nothing
 some-step none e = not-true (sym e)
 some-step (some p) e = refl
 
-value_read : (book : Bor Text) (k tag : ℕ) (r : SlipValue) (a e : ℕ) → ReadsSlip book k tag r → r.sort ≡ code-value.TheVariants.Part a e
-    → Holds book k tag a e r.value
+value_read : (book : Bor Text) (k tag : ℕ) (r : SlipValue) (v : Span) → ReadsSlip book k tag r → r.sort ≡ Ok v
+    → Holds book k tag v.start v.end r.value
 unfolding read_slip passes
-value_read book k tag r a e h s =
+value_read book k tag r v h s =
     let o = value_from expected tag (slot_start k) (slot book.now k) in
     let told = ap value_of (sym s) ∙ h.sort in
     let room = passes-rest (no_slot book.now k) _ (given-passes (read_tests book.now k tag) (or_nothing o) _ (sym told)) in
@@ -178,12 +180,12 @@ pub demand2 : Demand2
 demand2 =
     record {
       accepted = λ m h. judged-accepted profile01 m (sym h);
-      faultless = λ m r h f n. verdict-same r Accepted (h ∙ accepted-judged profile01 m f n);
+      faultless = λ m r h f n. verdict-same r (Ok None) (h ∙ accepted-judged profile01 m f n);
       otherwise = otherwise;
-      fault = λ m f h. judged-fault profile01 m (place_of f.place) f.reason (sym h);
+      fault = λ m f h. judged-fault profile01 m (place_of f.place) (number_of_reason f.reason) (sym h);
       reason = reason;
       conditions = refl;
-      text = λ m p r a e l s. text m p r l a e s;
+      text = λ m p r t l s. text m p r l t s;
       nothing = λ m p r l s. nothing m p r l s;
       resolves = resolves;
       replies = replies;

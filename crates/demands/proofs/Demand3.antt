@@ -4,15 +4,16 @@ use Prim.Native.Nat.{ℕ}
 use mathlib.Core.Bool.{true}
 use lib.ListN.{length}
 use denote.Ref.{Bor}
+use Rattle.std.proofs.Common.{Option, Result, Ok, Err}
 use Rattle.text.specs.Bytes.{Text, within}
 use Rattle.text.specs.Answer.{Answer, buffer_after, reported, tell}
-use Rattle.text.specs.declared.Written.{Written}
+use Rattle.text.specs.declared.refusal.Refusal.{Refusal}
 use Rattle.frame.specs.Frame.{framed}
 use Rattle.profile.specs.Table.{Table}
 use Rattle.profile.specs.Profile.{profile01}
 use Rattle.reader.specs.declared.Place as code
-use Rattle.reader.specs.declared.Found as code-found
-use Rattle.reader.specs.declared.Verdict.{Verdict}
+use Rattle.reader.specs.Found as code-found
+use Rattle.reader.specs.declared.Fault.{Fault}
 use Rattle.reader.specs.declared.search.LookedUp.{LookedUp}
 use Rattle.reader.specs.LookUp.{Found}
 use Rattle.reader.specs.Told.{place_of, found_of}
@@ -21,7 +22,6 @@ use Rattle.reader.specs.Promise.{LooksUp, Judges}
 use Rattle.reader.proofs.Unique.{judge_unique}
 use Rattle.reply.specs.Promise.{Replies}
 use Rattle.reply.proofs.Unique.{reply_unique}
-use Rattle.slip.specs.declared.Filed.{Filed}
 use Rattle.slip.specs.Book.{book_after}
 use Rattle.slip.specs.Told.{done}
 use Rattle.slip.specs.Promise.{Files}
@@ -34,10 +34,10 @@ use Rattle.demands.proofs.SameAnswers.{good', checks-same, judge-same, look-same
 use Rattle.striking.proofs.Striking.{not-empty}
 
 -- what a look-up hands back has the bytes that its answer names
-shown-step : (f : code-found.Found) (t m : Text) → t ≡ within (start_of f) (end_of f) m → shown_by f t ≡ tell (shown_found m) (found_of f)
-shown-step (code-found.TheVariants.Refused r) t m e = refl
-shown-step code-found.TheVariants.Empty t m e = refl
-shown-step (code-found.TheVariants.Text a b) t m e = rw e
+shown-step : (f : Result code-found.Found Refusal) (t m : Text) → t ≡ within (start_of f) (end_of f) m → shown_by f t ≡ tell (shown_found m) (found_of f)
+shown-step (Err r) t m e = refl
+shown-step (Ok code-found.TheVariants.Empty) t m e = refl
+shown-step (Ok (code-found.TheVariants.Text s)) t m e = rw e
 
 handed : (m : Bor Text) (p : code.Place) (r : LookedUp) → LooksUp m p r → handed_shown r ≡ look_up_shown m.now (place_of p)
 handed m p r l =
@@ -48,15 +48,15 @@ module _ (T : Table) (ok : fit T ≡ true) (cs : has_copies T ≡ true) (m : Tex
   abbrev m' : Text
   m' = strike T m
 
-  judges : (r : Verdict) → Judges T m r → Judges T m' r
+  judges : (r : Result (Option Fault) Refusal) → Judges T m r → Judges T m' r
   judges r h = h ∙ sym (judge-same T ok cs m good)
 
-  replies : (stamp number before : Text) (r : Written) (after : Text) → Replies T m stamp number before r after → Replies T m' stamp number before r after
+  replies : (stamp number before : Text) (r : Result ℕ Refusal) (after : Text) → Replies T m stamp number before r after → Replies T m' stamp number before r after
   replies stamp number before r after h =
       let e = sym (reply-same T ok cs m good stamp number (length before)) in
       record { answer = h.answer ∙ ap reported e; buffer = h.buffer ∙ ap (λ (a : Answer Text). buffer_after a before) e }
 
-  files : (g k : ℕ) (before : Text) (r : Filed) (after : Text) → Files T m g k before r after → Files T m' g k before r after
+  files : (g k : ℕ) (before : Text) (r : Result Unit Refusal) (after : Text) → Files T m g k before r after → Files T m' g k before r after
   files g k before r after h =
       let e = sym (file-same T ok cs m good g k before) in
       record { answer = h.answer ∙ ap done e; book = h.book ∙ ap (λ (a : Answer Text). book_after a k before) e }

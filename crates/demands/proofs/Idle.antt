@@ -4,17 +4,16 @@ use Prim.Native.Nat.{ℕ, ◌≤◌}
 use native.Mathlib.Omega.{arith}
 use mathlib.Core.Bool.{false}
 use denote.Ref.{Bor}
+use Rattle.std.proofs.Common.{None, Result, Ok}
 use Rattle.text.specs.Bytes.{Text, bytes}
+use Rattle.text.specs.declared.refusal.Refusal.{Refusal}
 use Rattle.text.specs.Answer.{given, first}
 use Rattle.text.proofs.Tests.{same_true}
 use Rattle.profile.specs.Profile.{profile01}
-use Rattle.reader.specs.declared.Verdict.TheVariants.{Accepted}
 use Rattle.reader.specs.Place.{Place, place}
 use Rattle.reader.specs.Fault.{accepted, fault, judge}
 use Rattle.reader.specs.Told.{verdict_of}
 use Rattle.reader.proofs.Unique.{verdict-same}
-use Rattle.slip.specs.declared.Filed.{Filed}
-use Rattle.slip.specs.declared.Filed.TheVariants.{Slip}
 use Rattle.slip.specs.Slot.{two_bytes, no_slot}
 use Rattle.reader.specs.Observations.{observations_of}
 use Rattle.slip.specs.Slip.{resolved_at, slip_text, slip_values}
@@ -73,19 +72,19 @@ two_orders-slip = same_true (slip_text two_orders 2) second_slip refl
 
 -- A GROUP OF AN ACCEPTED MESSAGE is filed in every slot that a book has, and its slip then stands there
 module _ (m : Text) (g : ℕ) (judged : judge profile01 m ≡ given accepted) (group : no_group m g ≡ false) where
-  own-filed : (k : ℕ) (before : Text) → no_slot before k ≡ false → FilesOwn m g k before Slip (book_after (own_filing m g k before) k before)
+  own-filed : (k : ℕ) (before : Text) → no_slot before k ≡ false → FilesOwn m g k before (Ok tt) (book_after (own_filing m g k before) k before)
   unfolding first
   own-filed k before room = record { answer = rw (group, room); book = refl }
 
-  files-slip : (k : ℕ) (before after : Text) (r : Filed) → no_slot before k ≡ false → Files profile01 m g k before r after
-      → (r ≡ Slip) × (slot after k ≡ slip_text m g)
+  files-slip : (k : ℕ) (before after : Text) (r : Result Unit Refusal) → no_slot before k ≡ false → Files profile01 m g k before r after
+      → (r ≡ Ok tt) × (slot after k ≡ slip_text m g)
   files-slip k before after r room f =
-      let filed = files-own m g k before Accepted (sym judged) refl Slip _ (own-filed k before room) in
-      let e = (file_unique profile01 m g k before r Slip after _ f filed).0 in
+      let filed = files-own m g k before None (sym judged) refl (Ok tt) _ (own-filed k before room) in
+      let e = (file_unique profile01 m g k before r (Ok tt) after _ f filed).0 in
       (e, filed-there m g k before after (rw e at f))
 
 -- WHAT A FILED SLIP hands back: the number of its own OBR, and the count of its own OBX
-module _ (m : Text) (g k : ℕ) (before : Text) (book : Bor Text) (f : Files profile01 m g k before Slip book.now) where
+module _ (m : Text) (g k : ℕ) (before : Text) (book : Bor Text) (f : Files profile01 m g k before (Ok tt) book.now) where
   number-value : value_of_tag 4 (slip_values m g) ≡ given (resolved_at m (bytes "OBR") g 3)
   number-value =
       let s = slip-given m g k before book.now f in
@@ -104,7 +103,7 @@ module _ (m : Text) (g k : ℕ) (before : Text) (book : Bor Text) (f : Files pro
 pub shut_out : ShutOut
 shut_out =
     record {
-      refuses_all = λ r h. verdict-same r Accepted (h ∙ p1_accepted);
+      refuses_all = λ r h. verdict-same r (Ok None) (h ∙ p1_accepted);
       says_the_same = λ r s h k e. p2_faulty (sym k ∙ ap verdict_of (sym e) ∙ h ∙ p1_accepted);
       files-nothing =
           λ k before after r room f.

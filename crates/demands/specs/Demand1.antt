@@ -6,7 +6,7 @@
 -- An entry is proved for any input, with nothing asked of its caller: it ends, and what it answers and leaves is what it promises
 -- (`called/src/lib.rt` calls four of the six entries under these promises, Promises.antt has the other two). Here stands what the promises come to, entry by
 -- entry: there is one answer and only one, its refusals come in 01's order, and a refusal leaves what was lent.
-use Rattle.std.specs.Prelude.{◌≡◌, ◌⊎◌, ℕ, ◌+◌, ◌≤◌, ◌<◌, true, List, [], ◌∷◌, ◌++◌, map, length, get_or}
+use Rattle.std.specs.Prelude.{◌≡◌, ◌⊎◌, ℕ, ◌+◌, ◌≤◌, ◌<◌, true, List, [], ◌∷◌, ◌++◌, map, length, get_or, Ok}
 use Rattle.std.specs.Borrow.{Bor}
 use Rattle.text.specs.Bytes.{Text}
 use Rattle.text.specs.Answer.{Answer, refused, given, Test, passes, number_of, written_of}
@@ -25,7 +25,6 @@ use Rattle.text.specs.Part.{SamePart}
 use Rattle.reader.specs.Promise.{LooksUp, Judges}
 use Rattle.reply.specs.Reply.{reply_tests}
 use Rattle.reply.specs.Promise.{Replies}
-use Rattle.slip.specs.declared.Filed.TheVariants.{Slip}
 use Rattle.slip.specs.Slot.{slot_size, slot_start}
 use Rattle.slip.specs.Book.{file_tests}
 use Rattle.slip.specs.Told.{filed_of}
@@ -105,4 +104,4 @@ pub record Demand1 : Type 0 where
   -- A FILED SLIP changes its own slot and nothing else
   pub own-slot :
       (m : Text) (group slot : ℕ) (before after : Text)
-      → Files profile01 m group slot before Slip after → OnlySlot slot before after
+      → Files profile01 m group slot before (Ok tt) after → OnlySlot slot before after

@@ -4,15 +4,16 @@
 -- give for the message as it came: the verdict with its place and reason, the look-up answer at each listed place (of a text its bytes), the
 -- reply for every stamp, reply number and buffer with what the buffer then holds, and the filing of every group in every slot and
 -- book with what the book then holds, or the refusal of either.
-use Rattle.std.specs.Prelude.{◌≡◌, ℕ, true}
+use Rattle.std.specs.Prelude.{◌≡◌, ℕ, true, Result, Ok, Err}
 use Rattle.std.specs.Borrow.{Bor}
 use Rattle.text.specs.Bytes.{Text, within}
 use Rattle.text.specs.Answer.{Answer, refused, given, tell}
+use Rattle.text.specs.declared.refusal.Refusal.{Refusal}
 use Rattle.frame.specs.Frame.{framed}
 use Rattle.profile.specs.Table.{Table}
 use Rattle.profile.specs.Profile.{profile01}
 use Rattle.reader.specs.declared.Place as code
-use Rattle.reader.specs.declared.Found as code-found
+use Rattle.reader.specs.Found as code-found
 use Rattle.reader.specs.declared.search.LookedUp.{LookedUp}
 use Rattle.reader.specs.Place.{Place}
 use Rattle.reader.specs.LookUp.{Found, text_from_to, look_up}
@@ -40,10 +41,10 @@ shown_found m (text_from_to a e) = Bytes (within a e m)
 abbrev pub look_up_shown : Text → Place → Answer ByBytes
 look_up_shown m p = tell (shown_found m) (look_up m p)
 
-abbrev pub shown_by : code-found.Found → Text → Answer ByBytes
-shown_by (code-found.TheVariants.Refused r) t = refused r
-shown_by code-found.TheVariants.Empty t = given Empty
-shown_by (code-found.TheVariants.Text a e) t = given (Bytes t)
+abbrev pub shown_by : Result code-found.Found Refusal → Text → Answer ByBytes
+shown_by (Err r) t = refused r
+shown_by (Ok code-found.TheVariants.Empty) t = given Empty
+shown_by (Ok (code-found.TheVariants.Text s)) t = given (Bytes t)
 
 abbrev pub handed_shown : LookedUp → Answer ByBytes
 handed_shown r = shown_by r.sort r.text.now

@@ -5,11 +5,11 @@ use reader::Place;
 use telling::{tell_found, tell_value};
 
 pub fn ask_look(m: &[u8], p: Place, out: &mut [u8]) -> usize {
-    let f = reader::look_up(m, p);
-    tell_found(out, f.sort, f.text)
+    let looked_up = reader::look_up(m, p);
+    tell_found(out, looked_up.sort, looked_up.text)
 }
 
 pub fn ask_read(book: &[u8], slot: usize, tag: u64, out: &mut [u8]) -> usize {
-    let v = book::read_slip(book, slot, tag);
-    tell_value(out, v.sort, v.value)
+    let slip_value = book::read_slip(book, slot, tag);
+    tell_value(out, slip_value.sort, slip_value.value)
 }

@@ -1,35 +1,38 @@
 // Numbers for callers of C and Rust: what is told of each answer, by the number returned and the numbers in the lent list; and the place asked for.
 #![tactic(auto)]
 
-ghost use Rattle.std.specs.Prelude.{◌≡◌};
-ghost use Rattle.text.specs.Answer.{written_of};
+ghost use Rattle.std.specs.Prelude.{◌≡◌, List, ℕ, []};
+ghost use Rattle.text.specs.Answer.{answer_of};
 ghost use Rattle.reader.specs.Fault.{fault};
-ghost use Rattle.reader.specs.Told.{place_of, verdict_of, found_of};
-ghost use Rattle.slip.specs.Told.{filed_of};
-ghost use Rattle.book.specs.Told.{value_of};
-ghost use Rattle.numbers.specs.Told.{status, Tells, verdict_numbers, found_numbers, size_numbers, part_numbers};
+ghost use Rattle.reader.specs.Reasons.{number_of_reason};
+ghost use Rattle.reader.specs.Told.{place_of, found_told, verdict_told};
+ghost use Rattle.numbers.specs.Told.{Tells, verdict_numbers, found_numbers, size_numbers, part_numbers};
 
 mod place;
 
-use book::Value;
 pub use place::place_asked;
-use reader::{Fault, Found, Verdict, condition};
-use slip::Filed;
-use text::{Written, number};
+use reader::{Fault, Found};
+use text::{Refusal, Span};
+
+// What is told by N numbers.
+pub trait Told<const N: usize> {
+    ghost told: { Self → List ℕ };
+
+    fn numbers(self) -> [u64; N]
+        ensures { result ≡ told self };
+}
 
 // The ten numbers of a fault.
 fn fault_numbers(f: Fault) -> [u64; 10]
-    ensures { result ≡ verdict_numbers (fault (place_of f.place) f.reason) }
+    ensures { result ≡ verdict_numbers (fault (place_of f.place) (number_of_reason f.reason)) }
 {
     let p = f.place;
-    let reason = f.reason as u64;
-    let code = condition(f.reason) as u64;
     [
-        reason,
-        code,
-        p.first as u64,
-        p.second as u64,
-        p.third as u64,
+        u64::from(f.number()),
+        u64::from(f.condition()),
+        u64::from(p.first),
+        u64::from(p.second),
+        u64::from(p.third),
         p.occurrence,
         p.field,
         p.repetition,
@@ -38,67 +41,66 @@ fn fault_numbers(f: Fault) -> [u64; 10]
     ]
 }
 
-pub fn tell_verdict(v: Verdict, out: &mut [u64; 10]) -> u8
-    ensures { Tells verdict_numbers (verdict_of v) out.old result out.new }
-{
-    match v {
-        Verdict::Refused(r) => number(r),
-        Verdict::Accepted => {
-            *out = [0; 10];
-            0
-        }
-        Verdict::Fault(f) => {
-            *out = fault_numbers(f);
-            0
+// A verdict: ten zeros for an accepted message.
+impl Told<10> for Option<Fault> {
+    ghost told = { λ v. verdict_numbers (verdict_told v) };
+
+    fn numbers(self) -> [u64; 10] {
+        match self {
+            None => [0; 10],
+            Some(f) => fault_numbers(f),
         }
     }
 }
 
-pub fn tell_found(f: Found, out: &mut [u64; 3]) -> u8
-    ensures { Tells found_numbers (found_of f) out.old result out.new }
-{
-    match f {
-        Found::Refused(r) => number(r),
-        Found::Empty => {
-            *out = [0, 0, 0];
-            0
-        }
-        Found::Text { start, end } => {
-            *out = [1, start as u64, end as u64];
-            0
+// What a look-up finds.
+impl Told<3> for Found {
+    ghost told = { λ f. found_numbers (found_told f) };
+
+    fn numbers(self) -> [u64; 3] {
+        match self {
+            Found::Empty => [0, 0, 0],
+            Found::Text(s) => [1, s.start as u64, s.end as u64],
         }
     }
 }
 
-pub fn tell_written(w: Written, out: &mut [u64; 1]) -> u8
-    ensures { Tells size_numbers (written_of w) out.old result out.new }
-{
-    match w {
-        Written::Refused(r) => number(r),
-        Written::Bytes(n) => {
-            *out = [n as u64];
-            0
-        }
+// How many bytes were written.
+impl Told<1> for usize {
+    ghost told = { size_numbers };
+
+    fn numbers(self) -> [u64; 1] {
+        [self as u64]
     }
 }
 
-pub fn tell_filed(f: Filed) -> u8
-    ensures { result ≡ status (filed_of f) }
-{
-    match f {
-        Filed::Refused(r) => number(r),
-        Filed::Slip => 0,
+// A part of the book.
+impl Told<2> for Span {
+    ghost told = { λ s. part_numbers (record { start = s.start; end = s.end }) };
+
+    fn numbers(self) -> [u64; 2] {
+        [self.start as u64, self.end as u64]
     }
 }
 
-pub fn tell_value(v: Value, out: &mut [u64; 2]) -> u8
-    ensures { Tells part_numbers (value_of v) out.old result out.new }
+// A slip filed: the number returned is all that is told.
+impl Told<0> for () {
+    ghost told = { λ _. [] };
+
+    fn numbers(self) -> [u64; 0] {
+        []
+    }
+}
+
+// Tells an answer: 0 and its numbers, or a refusal's number, and the list stays.
+pub fn tell<const N: usize, T: Told<N>>(answer: Result<T, Refusal>, out: &mut [u64; N]) -> u8
+    ensures { Tells T.told (answer_of (λ a. a) answer) out.old result out.new }
 {
-    match v {
-        Value::Refused(r) => number(r),
-        Value::Part { start, end } => {
-            *out = [start as u64, end as u64];
+    match answer {
+        Ok(a) => {
+            *out = a.numbers();
             0
         }
+        Err(r) => u8::from(r),
     }
 }

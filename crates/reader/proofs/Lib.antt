@@ -3,6 +3,7 @@ pub use Rattle.seek.proofs.Lying
 pub use Rattle.checks.proofs.Leaf
 pub use Rattle.checks.proofs.Stands
 pub use Rattle.checks.proofs.Filled
+pub use Rattle.checks.proofs.ReasonNumbers
 pub use Rattle.accepted.proofs.EachCheck
 pub use Rattle.accepted.proofs.Reasons
 pub use Rattle.accepted.proofs.Accepted

@@ -4,6 +4,7 @@ pub use Rattle.checks.specs.Place
 pub use Rattle.checks.specs.LookUp
 pub use Rattle.checks.specs.View
 pub use Rattle.checks.specs.Fault
+pub use Rattle.checks.specs.Reasons
 pub use Rattle.seek.specs.declared.Found
 pub mod Told
 pub mod Part

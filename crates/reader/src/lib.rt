@@ -1,6 +1,7 @@
 // Places, look-up and judging.
 #![tactic(auto)]
 
+mod faults;
 mod judging;
 mod places;
 mod search;

@@ -1,73 +1,51 @@
-// The calls that only read: each reads its words, the strings into memory of its own, asks its entry and tells the answer.
+// The calls that only read: each reads its words, the strings into memory of its own, asks its entry and tells the answer. Words that are not
+// those of the call have none.
 #![tactic(auto)]
 
 use handed::{ask_look, ask_read};
 use numbers::place_asked;
 use strings::{memory, next_string};
-use telling::{tell_no_call, tell_verdict};
-use words::{is_over, next_number};
+use telling::tell_verdict;
+use words::Words;
 
-pub fn judge(l: &[u8], at: usize, out: &mut [u8]) -> usize {
+pub fn judge(mut words: Words, out: &mut [u8]) -> Option<usize> {
     let mut message = memory();
-    let m = next_string(l, at, &mut message);
-    let n = m.count;
-    if !(m.is_good & is_over(l, m.next)) {
-        return tell_no_call(out);
+    let message = next_string(&mut words, &mut message)?;
+    if !words.is_over() {
+        return None;
     }
-    let v = reader::judge(&message[0..n]);
-    tell_verdict(out, v)
+    Some(tell_verdict(out, reader::judge(message)))
 }
 
-// Five numbers read from as many words, and whether these are the line's last.
-#[derive(Clone, Copy)]
-struct Asked {
-    is_good: bool,
-    numbers: [u64; 5],
+// The numbers that the last five words write.
+fn five_numbers(words: &mut Words) -> Option<[u64; 5]> {
+    let numbers = [
+        words.number()?,
+        words.number()?,
+        words.number()?,
+        words.number()?,
+        words.number()?,
+    ];
+    words.is_over().then_some(numbers)
 }
 
-fn five_numbers(l: &[u8], at: usize) -> Asked {
-    let o = next_number(l, at);
-    let f = next_number(l, o.next);
-    let r = next_number(l, f.next);
-    let c = next_number(l, r.next);
-    let s = next_number(l, c.next);
-    Asked {
-        is_good: o.is_good & f.is_good & r.is_good & c.is_good & s.is_good & is_over(l, s.next),
-        numbers: [o.value, f.value, r.value, c.value, s.value],
-    }
-}
-
-// The rest of a `look`, after the message and the name, which may have any length.
-fn look_at(l: &[u8], at: usize, m: &[u8], name: &[u8], out: &mut [u8]) -> usize {
-    let a = five_numbers(l, at);
-    if !a.is_good {
-        return tell_no_call(out);
-    }
-    let n = a.numbers;
-    ask_look(m, place_asked(name, &n), out)
-}
-
-pub fn look(l: &[u8], at: usize, out: &mut [u8]) -> usize {
+// The name may have any length.
+pub fn look(mut words: Words, out: &mut [u8]) -> Option<usize> {
     let mut message = memory();
     let mut name = memory();
-    let m = next_string(l, at, &mut message);
-    let n = m.count;
-    let w = next_string(l, m.next, &mut name);
-    let k = w.count;
-    if !(m.is_good & w.is_good) {
-        return tell_no_call(out);
-    }
-    look_at(l, w.next, &message[0..n], &name[0..k], out)
+    let message = next_string(&mut words, &mut message)?;
+    let name = next_string(&mut words, &mut name)?;
+    let numbers = five_numbers(&mut words)?;
+    Some(ask_look(message, place_asked(name, &numbers), out))
 }
 
-pub fn read(l: &[u8], at: usize, out: &mut [u8]) -> usize {
+pub fn read(mut words: Words, out: &mut [u8]) -> Option<usize> {
     let mut book = memory();
-    let b = next_string(l, at, &mut book);
-    let n = b.count;
-    let slot = next_number(l, b.next);
-    let tag = next_number(l, slot.next);
-    if !(b.is_good & slot.is_good & tag.is_good & is_over(l, tag.next)) {
-        return tell_no_call(out);
+    let book = next_string(&mut words, &mut book)?;
+    let slot = words.number()?;
+    let tag = words.number()?;
+    if !words.is_over() {
+        return None;
     }
-    ask_read(&book[0..n], slot.value as usize, tag.value, out)
+    Some(ask_read(book, slot as usize, tag, out))
 }

@@ -1,52 +1,25 @@
 // The calls by their names.
 use telling::tell_no_call;
-use text::is_same;
-use words::seek;
+use words::Words;
 
-#[derive(Clone, Copy)]
-enum Call {
-    Judge,
-    Look,
-    Resolve,
-    Reply,
-    File,
-    Read,
-    Unknown,
-}
-
-fn named(name: &[u8]) -> Call {
-    if is_same(name, b"judge") {
-        return Call::Judge;
+// The answer to a call; none to a line that is no call.
+fn told(line: &[u8], out: &mut [u8]) -> Option<usize> {
+    let mut words = Words::of(line);
+    match words.next()? {
+        b"judge" => reads::judge(words, out),
+        b"look" => reads::look(words, out),
+        b"resolve" => writes::resolve(words, out),
+        b"reply" => writes::reply(words, out),
+        b"file" => writes::file(words, out),
+        b"read" => reads::read(words, out),
+        _ => None,
     }
-    if is_same(name, b"look") {
-        return Call::Look;
-    }
-    if is_same(name, b"resolve") {
-        return Call::Resolve;
-    }
-    if is_same(name, b"reply") {
-        return Call::Reply;
-    }
-    if is_same(name, b"file") {
-        return Call::File;
-    }
-    if is_same(name, b"read") {
-        return Call::Read;
-    }
-    Call::Unknown
 }
 
 // Puts the answer to a line to the front of `out`, and answers where it ends.
-pub fn answer(l: &[u8], out: &mut [u8]) -> usize {
-    let end = seek(l, 0, b' ');
-    let at = end + 1;
-    match named(&l[0..end]) {
-        Call::Judge => reads::judge(l, at, out),
-        Call::Look => reads::look(l, at, out),
-        Call::Resolve => writes::resolve(l, at, out),
-        Call::Reply => writes::reply(l, at, out),
-        Call::File => writes::file(l, at, out),
-        Call::Read => reads::read(l, at, out),
-        Call::Unknown => tell_no_call(out),
+pub fn answer(line: &[u8], out: &mut [u8]) -> usize {
+    match told(line, out) {
+        Some(end) => end,
+        None => tell_no_call(out),
     }
 }

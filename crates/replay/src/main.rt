@@ -22,11 +22,9 @@ fn run<R: Read>(
         seen: 0,
         to: 0,
         is_long: false,
-        is_open: true,
     };
     for _ in 0..u64::MAX {
-        w = turn(rt, input, window, w, out)?;
-        if !w.is_open {
+        if !turn(rt, input, window, &mut w, out)? {
             break;
         }
     }

@@ -1,5 +1,5 @@
 // Lines are answered in the window on standard input as soon as they are whole.
-ghost use Rattle.std.specs.Prelude.{◌≡◌, length, IfOk};
+ghost use Rattle.std.specs.Prelude.{◌≡◌, length};
 ghost use Rattle.input.specs.Inside.{Inside};
 
 use crate::calls::answer;
@@ -9,57 +9,46 @@ use std::io::Read;
 use telling::tell_no_call;
 use words::seek;
 
-// Writes the line that was told, and tells whether it lies in its memory: where it does not, there is no more to do.
-fn say(rt: &impl Print, out: &[u8], n: usize) -> io::Result<bool> {
-    if out.len() < n {
+// Answers a line, and tells whether the answer lies in its memory: where it does not, there is no more to do. Of a line that is too long only
+// its end is here.
+fn answer_line(rt: &impl Print, line: &[u8], is_long: bool, out: &mut [u8]) -> io::Result<bool> {
+    let end = if is_long {
+        tell_no_call(out)
+    } else {
+        answer(line, out)
+    };
+    let Some(told) = out.get(..end) else {
         return Ok(false);
-    }
-    rt.write_all(&out[..n])?;
+    };
+    rt.write_all(told)?;
     Ok(true)
 }
 
-// Answers a line, and tells whether the answer was written. Of a line that is too long only its end is here.
-fn answer_line(rt: &impl Print, l: &[u8], is_long: bool, out: &mut [u8]) -> io::Result<bool> {
-    if is_long {
-        let n = tell_no_call(out);
-        return say(rt, out, n);
-    }
-    let n = answer(l, out);
-    say(rt, out, n)
-}
-
-// One turn: a line is answered, or more is read. At the input's end a line without its line feed is answered too.
-// Inner: the program begins with a window that lies in its memory, and each turn keeps it there.
+// One turn: a line is answered, or more is read. It answers whether there is more to do: at the input's end a line without its line feed is
+// answered too, and there is none. Inner: the program begins with a window that lies in its memory, and each turn keeps it there.
 pub fn turn<R: Read>(
     rt: &impl Print,
     input: &mut R,
-    window: &mut [u8],
-    w: Window,
+    memory: &mut [u8],
+    w: &mut Window,
     out: &mut [u8],
-) -> io::Result<Window>
-    requires { Inside w (length window.old) }
-    ensures inside { IfOk result (λ w. Inside w (length window.new)) }
-    ensures kept { length window.new ≡ length window.old }
+) -> io::Result<bool>
+    requires { Inside w.old (length memory.old) }
+    ensures inside { Inside w.new (length memory.new) }
+    ensures kept { length memory.new ≡ length memory.old }
 {
-    let from = w.from;
-    let to = w.to;
-    let end = seek(&window[0..to], w.seen, b'\n');
-    if end < to {
-        let l = &window[from..end];
-        let is_open = answer_line(rt, l, w.is_long, out)?;
-        return Ok(Window {
-            from: end + 1,
-            seen: end + 1,
-            to,
-            is_long: false,
-            is_open,
-        });
+    let end = seek(&memory[..w.to], w.seen, b'\n');
+    if end < w.to {
+        let line = &memory[w.from..end];
+        let is_long = w.is_long;
+        w.from = end + 1;
+        w.seen = end + 1;
+        w.is_long = false;
+        return answer_line(rt, line, is_long, out);
     }
-    let v = refill(input, window, w)?;
-    let last = v.to;
-    if !v.is_open & ((0 < last) | v.is_long) {
-        let l = &window[0..last];
-        answer_line(rt, l, v.is_long, out)?;
+    let came = refill(input, memory, w)?;
+    if !came & ((0 < w.to) | w.is_long) {
+        answer_line(rt, &memory[..w.to], w.is_long, out)?;
     }
-    Ok(v)
+    Ok(came)
 }

@@ -8,13 +8,14 @@ use Rattle.parts.specs.Split.{join, closed}
 use Rattle.reader.specs.declared.Fault.{Fault}
 use Rattle.reader.specs.Place.{Place}
 use Rattle.reader.specs.Fault.{accepted, fault, condition}
+use Rattle.reader.specs.Reasons.{number_of_reason}
 use Rattle.reader.specs.Told.{place_of}
 use Rattle.report.specs.Error.{code, condition_text, reply_err}
 
 -- MSA up to the control number
 abbrev pub code_of : Option Fault → Text
 code_of None = bytes "MSA|" ++ code accepted ++ bytes "|"
-code_of (Some f) = bytes "MSA|" ++ code (fault (place_of f.place) f.reason) ++ bytes "|"
+code_of (Some f) = bytes "MSA|" ++ code (fault (place_of f.place) (number_of_reason f.reason)) ++ bytes "|"
 
 -- a condition, its text and its table
 abbrev pub condition_words : ℕ → Text
@@ -26,4 +27,4 @@ error_text p n = closed cr (reply_err (fault p n))
 
 abbrev pub error_of : Option Fault → Text
 error_of None = []
-error_of (Some f) = error_text (place_of f.place) f.reason
+error_of (Some f) = error_text (place_of f.place) (number_of_reason f.reason)

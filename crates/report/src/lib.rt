@@ -5,6 +5,7 @@ ghost use Rattle.std.specs.Prelude.{◌≡◌, [], ◌∷◌, ◌+◌, ◌≤◌
 ghost use Rattle.text.specs.Bytes.{pick, byte};
 ghost use Rattle.text.specs.Decimal.{decimal};
 ghost use Rattle.text.specs.Writes.{Writes};
+ghost use Rattle.reader.specs.Reasons.{number_of_reason};
 ghost use Rattle.reader.specs.Told.{place_of};
 ghost use Rattle.report.specs.Error.{place_text};
 ghost use Rattle.report.specs.Inner.{code_of, error_of, error_text, condition_words};
@@ -22,7 +23,7 @@ pub fn put_code(w: &mut Writer, fault: Option<Fault>)
 {
     match fault {
         None => w.put(b"MSA|AA|"),
-        Some(f) if condition(f.reason) < FIRST_REJECTION => w.put(b"MSA|AE|"),
+        Some(f) if f.condition() < FIRST_REJECTION => w.put(b"MSA|AE|"),
         Some(_) => w.put(b"MSA|AR|"),
     }
 }
@@ -76,13 +77,13 @@ fn condition_words(reason: u8) -> &'static [u8]
 
 // ERR with its CR.
 fn put_fault(w: &mut Writer, f: Fault)
-    requires { w.old.at + length (error_text (place_of f.place) f.reason) ≤ length w.old.out.now }
-    ensures { Writes w.old (error_text (place_of f.place) f.reason) w.new }
+    requires { w.old.at + length (error_text (place_of f.place) (number_of_reason f.reason)) ≤ length w.old.out.now }
+    ensures { Writes w.old (error_text (place_of f.place) (number_of_reason f.reason)) w.new }
 {
     w.put(b"ERR||");
     put_place(w, f.place);
     w.put(b"|");
-    w.put(condition_words(f.reason));
+    w.put(condition_words(f.condition()));
     w.put(b"|E\r");
 }
 

@@ -8,9 +8,9 @@ ghost use Rattle.slip.specs.Slot.{slot_size};
 ghost use Rattle.slip.specs.Book.{file};
 ghost use Rattle.hexes.specs.Hex.{slip_lines};
 
-use asked::{Asked, argument_count, number_at};
+use asked::{argument_count, number_at};
 use input::{MESSAGE_ROOM, read_full};
-use slip::{Filed, SLOT_SIZE};
+use slip::SLOT_SIZE;
 use std::io;
 use std::io::Read;
 
@@ -24,8 +24,8 @@ fn tell(m: &[u8], group: u64, out: &mut [u8]) -> usize
 {
     let mut book = [0u8; SLOT_SIZE];
     match slip::file(m, group, 0, &mut book) {
-        Filed::Refused(r) => line::refused_line(r, out),
-        Filed::Slip => hexes::hex_lines(&book, out),
+        Err(r) => line::refused_line(r, out),
+        Ok(()) => hexes::hex_lines(&book, out),
     }
 }
 
@@ -39,7 +39,7 @@ fn show(rt: &impl Print, input: &mut impl Read, group: u64) -> io::Result<()> {
 
 fn main(rt: HostRuntime) -> io::Result<()> {
     if argument_count(&rt) == 2
-        && let Asked::Number(group) = number_at(&rt, 1)
+        && let Some(group) = number_at(&rt, 1)
     {
         return show(&rt, &mut rt.stdin(), group);
     }

@@ -1,8 +1,7 @@
 // Strings of bytes as answers spell them: a byte by itself or by %XX, and a run of equal bytes in short. What has no room is left out.
 #![tactic(auto)]
 
-ghost use Rattle.std.specs.Prelude.{◌<◌};
-
+use hexes::hex_digit;
 use strings::is_plain;
 use text::Writer;
 
@@ -17,15 +16,6 @@ pub fn put_decimal(w: &mut Writer, n: u64) {
     let mut digits = [0u8; 20];
     let k = text::put_decimal(&mut digits, 0, n);
     put(w, &digits[..k]);
-}
-
-fn hex_digit(n: u8) -> u8
-    requires { n < 16 }
-{
-    if n < 10 {
-        return b'0' + n;
-    }
-    b'A' + (n - 10)
 }
 
 // A byte by itself or by its two digits.

@@ -9,6 +9,6 @@ use Rattle.cabi.proofs.ithwyral_file.Goals as goal
 pub returns : goal.returns
 returns c =
     record {
-      returned = c.tell_filed.ensures ∙ ap status c.file.ensures.answer ∙ status-done (file profile01 c.args.m.now c.args.group c.args.slot c.args.book.now);
+      returned = c.tell.ensures.returned ∙ ap status c.file.ensures.answer ∙ status-done (file profile01 c.args.m.now c.args.group c.args.slot c.args.book.now);
       book = c.file.ensures.book;
     }

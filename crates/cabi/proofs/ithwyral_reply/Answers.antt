@@ -2,4 +2,4 @@
 use Rattle.cabi.proofs.ithwyral_reply.Goals as goal
 
 pub returns : goal.returns
-returns c = record { told = rw c.reply.ensures.answer at c.tell_written.ensures; buffer = c.reply.ensures.buffer }
+returns c = record { told = rw c.reply.ensures.answer at c.tell.ensures; buffer = c.reply.ensures.buffer }

@@ -2,4 +2,4 @@
 use Rattle.cabi.proofs.ithwyral_resolve.Goals as goal
 
 pub returns : goal.returns
-returns c = record { told = rw c.resolve.ensures.answer at c.tell_written.ensures; buffer = c.resolve.ensures.buffer }
+returns c = record { told = rw c.resolve.ensures.answer at c.tell.ensures; buffer = c.resolve.ensures.buffer }
