@@ -1,80 +1,62 @@
--- Codes that are put one after another, told from where the loop stands.
-use mathlib.Core.Path.{◌≡◌, ap, ◌∙◌}
-use Prim.Native.Nat.{ℕ, suc, ◌+◌, ◌-◌, ◌/◌, ◌≤◌, ◌<◌}
+-- Codes that are put one after another.
+use mathlib.Core.Path.{◌≡◌, refl, ap, subst, ◌∙◌}
+use Prim.Native.Nat.{ℕ, ◌+◌, ◌/◌, ◌≤◌, ◌<◌}
 use native.Mathlib.Omega.{arith}
+use native.Mathlib.Numerals.{add-one}
 use mathlib.Core.Bool.{true}
 use mathlib.Core.List.{List, [], ◌∷◌, ◌++◌}
-use lib.ListN.{length, get_or, drop, set, length-drop}
-use lib.Seq.{get_or-drop, get_or-take, length-take-le}
+use lib.ListN.{length, get_or, take, drop}
+use lib.Seq.{take-suc}
 use lib.Dec.{ltb}
 use borrow.Author.Tests.{ltb-true}
-use Rattle.text.specs.Bytes.{Text, byte, within}
-use Rattle.text.specs.Puts.{Puts}
-use Rattle.text.proofs.Puts.{puts-on}
+use Rattle.text.specs.Bytes.{Text, byte, every}
+use Rattle.text.specs.declared.writer.Writer.{Writer}
+use Rattle.text.specs.Writes.{Writes}
+use Rattle.text.proofs.Puts.{puts_none}
+use Rattle.text.proofs.Writes.{writes-both}
 use Rattle.text.proofs.Lists.{every-at}
 use Rattle.parts.specs.Split.{led}
-use Rattle.profile.specs.Codes.{following, codes_from, are_codes, codes_behind}
-use Rattle.codes.proofs.Spelled.{CodeAt, code-at}
-use Rattle.chart.specs.Inner.{IsCode, code_at}
+use Rattle.profile.specs.Codes.{leading_byte, codes_from, are_codes, codes_behind}
+use Rattle.codes.proofs.Spelled.{Next, next-code}
 
-pub code-length : (table : List ℕ) (from to : ℕ) → IsCode table from to → length (code_at table from to) ≡ to - from
-code-length table from to c =
-    let l = length-take-le (to - suc from) (drop (suc from) table) (omega (arith, length-drop (suc from) table, c.inside)) in
-    omega (arith, l, c.some)
+pub writes_none : (a : Writer) → a.at ≤ length a.out.now → Writes a [] a
+writes_none a h = record { same = refl; puts = puts_none a.out.now a.at h }
 
--- A NUMBER AFTER THE FIRST of a code
-module _ (table : List ℕ) (from i : ℕ) (after : from < i) where
-  here : get_or (drop (suc from) table) (i - suc from) 0 ≡ get_or table i 0
-  here =
-      let z : suc from + (i - suc from) ≡ i = omega arith in
-      rw (get_or-drop, z)
+-- one byte more of those after the first of a code
+pub byte-on : {before mid after : Writer} (t : Text) (i : ℕ) → i < length t → Writes before (take i t) mid → Writes mid (get_or t i 0 ∷ []) after
+    → Writes before (take (i + 1) t) after
+byte-on t i h p q = rw (add-one i, take-suc t i 0) (writes-both p q)
 
-  pub is_byte : (to : ℕ) → i < to → IsCode table from to → get_or table i 0 < 256
-  is_byte to h c =
-      let l : i - suc from < length (within (suc from) to table) = omega (arith, code-length table from to c) in
-      let e = every-at (λ (x : ℕ). ltb x 256) (within (suc from) to table) (i - suc from) 0 l c.bytes in
-      ltb-true (get_or table i 0) 256
-      (rw (get_or-take (to - suc from) (drop (suc from) table) (i - suc from) 0 (omega arith), here) at e)
+pub is_byte : (t : Text) (i : ℕ) → i < length t → every (λ (x : ℕ). ltb x 256) t ≡ true → get_or t i 0 < 256
+is_byte t i h e = ltb-true (get_or t i 0) 256 (every-at (λ (x : ℕ). ltb x 256) t i 0 h e)
 
-  pub byte-on : {before : Text} {at : ℕ} {mid : Text} {k : ℕ} → i < length table → k < length mid
-      → Puts before at (within (suc from) i table) mid k → Puts before at (within (suc from) (i + 1) table) (set mid k (get_or table i 0)) (k + 1)
-  byte-on h l p =
-      let z : i + 1 - suc from ≡ i - suc from + 1 = omega arith in
-      rw (z, ← here) (puts-on (drop (suc from) table) (i - suc from) (omega (arith, length-drop (suc from) table)) l p)
+-- codes, a blank before each; where those that are left are put, all that there was to put is there
+abbrev pub codes_led : List ℕ → Text
+codes_led codes = led (byte " ") (codes_from codes)
 
--- the codes that are left, a blank before each; where they are put, all that there was to put is there
-abbrev pub led_from : List ℕ → ℕ → ℕ → Text
-led_from table i end = led (byte " ") (codes_from (within i end table))
+abbrev pub Leaves : Writer → Text → Writer → Text → Type 0
+Leaves before all mid left = (after : Writer) → Writes mid left after → Writes before all after
 
-abbrev pub Leaves : Text → ℕ → Text → Text → ℕ → Text → Type 0
-Leaves before at all mid k left = (after : Text) (r : ℕ) → Puts mid k left after r → Puts before at all after r
+-- THE FIRST CODE and those behind it
+module _ (left : List ℕ) (x : ℕ) (xs : List ℕ) (is : left ≡ x ∷ xs) (are : are_codes left ≡ true) where
+  next : Next x xs
+  next = next-code x xs (subst (λ (l : List ℕ). are_codes l ≡ true) is are)
 
--- THE CODE AT A PLACE and those behind it
-module _ (table : List ℕ) (i end : ℕ) (before-end : i < end) (inside : end ≤ length table) (are : are_codes (within i end table) ≡ true) where
-  abbrev pub on : ℕ
-  on = i + 1 + get_or table i 0 / 256
+  pub code-there : x / 256 ≤ length xs
+  code-there = next.behind.there
 
-  code : CodeAt table i end before-end inside
-  code = code-at table i end before-end inside are
+  module _ (others codes : List ℕ) (front : others ≡ take (x / 256) xs) (back : codes ≡ drop (x / 256) xs) where
+    pub code-bytes : every (λ (b : ℕ). ltb b 256) others ≡ true
+    code-bytes = rw front next.behind.bytes
 
-  on-is : suc i + following (get_or table i 0) ≡ on
-  on-is = omega arith
+    pub codes-rest : are_codes codes ≡ true
+    codes-rest = rw back next.behind.rest
 
-  pub on-inside : on ≤ end
-  on-inside = omega (arith, code.ends)
+    pub codes-led : codes_led left ≡ (byte " " ∷ leading_byte x ∷ others) ++ codes_led codes
+    unfolding led
+    codes-led = rw is (ap (led (byte " ")) next.codes ∙ rw (front, back) refl)
 
-  pub is_code : IsCode table i on
-  is_code = record { some = omega arith; inside = omega (arith, on-inside); bytes = rw on-is at code.bytes }
-
-  pub codes-rest : are_codes (within on end table) ≡ true
-  codes-rest = rw on-is at code.rest
-
-  pub codes-led : led_from table i end ≡ (byte " " ∷ code_at table i on) ++ led_from table on end
-  unfolding led
-  codes-led = ap (led (byte " ")) code.codes ∙ rw on-is
-
-pub codes-end : (table : List ℕ) (i end : ℕ) → end ≤ i → led_from table i end ≡ []
+pub codes-end : (left : List ℕ) → length left ≡ 0 → codes_led left ≡ []
 unfolding led codes_behind
-codes-end table i end h =
-    let z : end - i ≡ 0 = omega arith in
-    rw z
+codes-end [] h = refl
+codes-end (x ∷ xs) h = absurd (omega (arith, h))

@@ -8,12 +8,13 @@ use lib.ListN.{length, get_or, drop, length-append}
 use lib.Seq.{get_or-drop}
 use Rattle.text.specs.Bytes.{Text, pick, bytes, byte, within}
 use Rattle.text.specs.Decimal.{decimal}
-use Rattle.text.specs.Puts.{Puts}
-use Rattle.text.proofs.Puts.{puts-both}
+use Rattle.text.specs.declared.writer.Writer.{Writer}
+use Rattle.text.specs.Writes.{Writes}
+use Rattle.text.proofs.Writes.{writes-both}
 use Rattle.parts.specs.Split.{led, join}
 use Rattle.profile.specs.Codes.{codes_from}
 use Rattle.profile.specs.Numbers.{field_column, component_column, list_column, reason_column, codes_in, leaf_of}
-use Rattle.codes.specs.declared.lists.CodeRange.{CodeRange}
+use Rattle.text.specs.declared.span.Span.{Span}
 use Rattle.codes.specs.Inner.{AreListed}
 use Rattle.reader.specs.Fault.{condition}
 use Rattle.line.proofs.Lines.{led-more}
@@ -55,7 +56,7 @@ unfolding chart_line join
 line_written c = rw (led-more (byte " ") (reason_words c.reason) c.codes) (simp append_assoc)
 
 -- THE LINE of the row that begins at a place of a table, with the codes of its list among the lists
-module _ (n : Text) (alone : Bool) (table : List ℕ) (row : ℕ) (lists : List ℕ) (l : CodeRange) (are : AreListed lists (get_or table (row + list_column) 0) l) where
+module _ (n : Text) (alone : Bool) (table : List ℕ) (row : ℕ) (lists : List ℕ) (l : Span) (are : AreListed lists (get_or table (row + list_column) 0) l) where
   abbrev place : Text
   place = place_text (row_charted n alone (drop row table))
 
@@ -74,7 +75,6 @@ module _ (n : Text) (alone : Bool) (table : List ℕ) (row : ℕ) (lists : List 
   pub row_length : length (row_line n alone (drop row table)) ≡ length place + length reason + length codes + 1
   row_length = rw row_written (simp length-append (omega arith))
 
-  pub row_puts : {before : Text} {at : ℕ} {x : Text} {i : ℕ} {y : Text} {j : ℕ} {z : Text} {k : ℕ} {after : Text} {r : ℕ}
-      → Puts before at place x i → Puts x i reason y j → Puts y j codes z k → Puts z k (newline ∷ []) after r
-      → Puts before at (row_line n alone (drop row table)) after r
-  row_puts p q o e = rw row_written (puts-both p (puts-both q (puts-both o e)))
+  pub row_puts : {before x y z after : Writer} → Writes before place x → Writes x reason y → Writes y codes z → Writes z (newline ∷ []) after
+      → Writes before (row_line n alone (drop row table)) after
+  row_puts p q o e = rw row_written (writes-both p (writes-both q (writes-both o e)))

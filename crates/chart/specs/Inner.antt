@@ -1,23 +1,12 @@
 -- Inner: no entry's promise is made of this.
--- What only inner functions promise and ask for: a code and a line as they stand in a table, the lines of a row, and of the rows from one place of a table up to
--- another.
-use Rattle.std.specs.Prelude.{ℕ, suc, ◌≤◌, ◌<◌, ◌≡◌, Bool, true, List, [], ◌∷◌, length, get_or, ltb}
-use Rattle.text.specs.Bytes.{Text, bytes, keep, every, within}
+-- What only inner functions promise and ask for: a line as it stands in a table, the lines of a row, and of the rows from one place of a table up to another.
+use Rattle.std.specs.Prelude.{ℕ, Bool, List, [], ◌∷◌, get_or}
+use Rattle.text.specs.Bytes.{Text, bytes, keep}
 use Rattle.text.specs.Decimal.{decimal}
-use Rattle.profile.specs.Codes.{leading_byte}
 use Rattle.profile.specs.Numbers.{field_column, component_column, reason_column, codes_in, leaf_of, listed_of}
 use Rattle.reader.specs.Fault.{condition}
 use Rattle.line.specs.Line.{as_line}
 use Rattle.chart.specs.Chart.{Charted, row_lists, chart_line, is_asked, lines_of}
-
--- the numbers from one place of a table up to another are a code's, and the code
-pub record IsCode (table : List ℕ) (from to : ℕ) : Type 0 where
-  pub some : from < to
-  pub inside : to ≤ length table
-  pub bytes : every (λ (x : ℕ). ltb x 256) (within (suc from) to table) ≡ true
-
-abbrev pub code_at : List ℕ → ℕ → ℕ → Text
-code_at table from to = leading_byte (get_or table from 0) ∷ within (suc from) to table
 
 -- the words between a place and the codes
 abbrev pub reason_words : ℕ → List Text

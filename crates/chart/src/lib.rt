@@ -3,4 +3,4 @@
 
 mod row;
 
-pub use row::put_row;
+pub use row::{Asked, ListedRow, put_row};

@@ -1,154 +1,138 @@
 // The line of a row that has a list. Inner: the callers hold that a row stands there, and lend room for the line.
-ghost use Rattle.std.specs.Prelude.{◌≡◌, true, ◌&&◌, ◌||◌, ◌∷◌, ◌+◌, ◌≤◌, ◌<◌, eqb, length, get_or, drop};
-ghost use Rattle.text.specs.Bytes.{byte, same, within};
-ghost use Rattle.text.specs.Puts.{Puts};
+ghost use Rattle.std.specs.Prelude.{◌≡◌, true, ◌&&◌, ◌||◌, ◌∷◌, ◌+◌, ◌≤◌, ◌<◌, eqb, ltb, length, get_or, drop};
+ghost use Rattle.text.specs.Bytes.{byte, every, same};
+ghost use Rattle.text.specs.Writes.{Writes};
 ghost use Rattle.parts.specs.Split.{led};
-ghost use Rattle.profile.specs.Codes.{codes_from, are_codes, HasLists};
+ghost use Rattle.profile.specs.Codes.{leading_byte, codes_from, are_codes, HasLists};
 ghost use Rattle.profile.specs.Numbers.{leaf_of, row_size, type_column, reason_column};
 ghost use Rattle.profile.specs.Order.{reason_fits};
 ghost use Rattle.chart.specs.Chart.{place_text};
-ghost use Rattle.chart.specs.Inner.{IsCode, code_at, reason_words, row_charted, row_line, row_lines};
+ghost use Rattle.chart.specs.Inner.{reason_words, row_charted, row_line, row_lines};
 
 use codes::list_codes;
 use profile::{columns, numbers};
 use reader::condition;
-use text::{is_same, put, put_decimal};
+use text::{Writer, is_same};
 
-// Puts a blank and the code whose numbers stand from one place of a table up to another.
-fn put_code(out: &mut [u8], at: usize, table: &[u16], from: usize, to: usize) -> usize
-    requires code { IsCode table.now from to }
-    requires room { at + length (byte " " ∷ code_at table.now from to) ≤ length out.old }
-    ensures { Puts out.old at (byte " " ∷ code_at table.now from to) out.new result }
-{
-    let head = [b' ', (table[from] % 256) as u8];
-    let mut k = put(out, at, &head);
-    let mut i = from + 1;
-    while i < to {
-        out[k] = table[i] as u8;
-        k += 1;
-        i += 1;
-    }
-    k
+// A row of a table, of the segment with that name: where it begins, and whether its field lists this leaf alone.
+#[derive(Clone, Copy)]
+pub struct ListedRow<'a> {
+    pub segment: &'a [u8],
+    pub table: &'a [u16],
+    pub start: usize,
+    pub alone: bool,
 }
 
-// Puts the codes that stand in a table from one place up to another, a blank before each.
-fn put_codes(out: &mut [u8], at: usize, table: &[u16], start: usize, end: usize) -> usize
-    requires whole_codes { (end ≤ length table.now) × (are_codes (within start end table.now) ≡ true) }
-    requires room { at + length (led (byte " ") (codes_from (within start end table.now))) ≤ length out.old }
-    ensures { Puts out.old at
-        (led (byte " ") (codes_from (within start end table.now)))
-        out.new result }
-{
-    let mut to = at;
-    let mut i = start;
-    while i < end {
-        let next = i + 1 + table[i] as usize / 256;
-        to = put_code(out, to, table, i, next);
-        i = next;
-    }
-    to
+// The lists that are asked for: field 0 for every list, component 0 for every component.
+#[derive(Clone, Copy)]
+pub struct Asked<'a> {
+    pub name: &'a [u8],
+    pub field: u64,
+    pub component: u64,
 }
 
-// Puts the place of the row that begins at `row`: its component too, unless its field lists no other leaf.
-fn put_place(
-    out: &mut [u8],
-    at: usize,
-    segment: &[u8],
-    table: &[u16],
-    row: usize,
-    alone: bool,
-) -> usize
-    requires row_inside { row + row_size ≤ length table.now }
-    requires room { at + length (place_text (row_charted segment.now alone (drop row table.now))) ≤ length out.old }
-    ensures { Puts out.old at
-        (place_text (row_charted segment.now alone (drop row table.now)))
-        out.new result }
+// Puts a blank and the code whose first number and whose other bytes these are.
+fn put_code(w: &mut Writer, first: u16, others: &[u16])
+    requires bytes { every (λ x. ltb x 256) others.now ≡ true }
+    requires room { w.old.at + length (byte " " ∷ leading_byte first ∷ others.now) ≤ length w.old.out.now }
+    ensures { Writes w.old (byte " " ∷ leading_byte first ∷ others.now) w.new }
 {
-    let a = put(out, at, segment);
-    let b = put(out, a, b"-");
-    let c = put_decimal(out, b, table[row + columns::FIELD] as u64);
-    if alone {
-        return c;
+    w.put(&[b' ', (first % 256) as u8]);
+    for other in others {
+        w.put(&[*other as u8]);
     }
-    let d = put(out, c, b".");
-    put_decimal(out, d, table[row + columns::COMPONENT] as u64)
+}
+
+// Puts codes, a blank before each.
+fn put_codes(w: &mut Writer, codes: &[u16])
+    requires whole_codes { are_codes codes.now ≡ true }
+    requires room { w.old.at + length (led (byte " ") (codes_from codes.now)) ≤ length w.old.out.now }
+    ensures { Writes w.old (led (byte " ") (codes_from codes.now)) w.new }
+{
+    let mut left = codes;
+    while let Some((number, rest)) = left.split_first() {
+        let (others, codes) = rest.split_at(*number as usize / 256);
+        put_code(w, *number, others);
+        left = codes;
+    }
+}
+
+// Puts the place of a row: its component too, unless its field lists no other leaf.
+fn put_place(w: &mut Writer, r: ListedRow)
+    requires row_inside { r.start + row_size ≤ length r.table.now }
+    requires room { w.old.at + length (place_text (row_charted r.segment.now r.alone (drop r.start r.table.now))) ≤ length w.old.out.now }
+    ensures { Writes w.old (place_text (row_charted r.entry.segment.now r.entry.alone (drop r.entry.start r.entry.table.now))) w.new }
+{
+    w.put(r.segment);
+    w.put(b"-");
+    w.put_decimal(r.table[r.start + columns::FIELD] as u64);
+    if r.alone {
+        return;
+    }
+    w.put(b".");
+    w.put_decimal(r.table[r.start + columns::COMPONENT] as u64);
 }
 
 // Puts a reason, its condition, and the word that the codes stand after.
-fn put_reason(out: &mut [u8], at: usize, reason: u8) -> usize
-    requires { at + length (led (byte " ") (reason_words reason)) ≤ length out.old }
-    ensures { Puts out.old at (led (byte " ") (reason_words reason)) out.new result }
+fn put_reason(w: &mut Writer, reason: u8)
+    requires { w.old.at + length (led (byte " ") (reason_words reason)) ≤ length w.old.out.now }
+    ensures { Writes w.old (led (byte " ") (reason_words reason)) w.new }
 {
-    let a = put(out, at, b" reason ");
-    let b = put_decimal(out, a, reason as u64);
-    let c = put(out, b, b" condition ");
-    let d = put_decimal(out, c, condition(reason) as u64);
-    put(out, d, b" codes")
+    w.put(b" reason ");
+    w.put_decimal(reason as u64);
+    w.put(b" condition ");
+    w.put_decimal(condition(reason) as u64);
+    w.put(b" codes");
 }
 
-// Puts the line of the row that begins at `row`, with the codes of its list.
-fn put_line(
-    out: &mut [u8],
-    at: usize,
-    segment: &[u8],
-    table: &[u16],
-    row: usize,
-    alone: bool,
-) -> usize
-    requires row_inside { (row + row_size ≤ length table.now) × HasLists table.now }
-    requires small_reason { get_or (drop row table.now) reason_column 0 < 256 }
-    requires room { at + length (row_line segment.now alone (drop row table.now)) ≤ length out.old }
-    ensures { Puts out.old at
-        (row_line segment.now alone (drop row table.now))
-        out.new result }
+// Puts the line of a row, with the codes of its list.
+fn put_line(w: &mut Writer, r: ListedRow)
+    requires row_inside { (r.start + row_size ≤ length r.table.now) × HasLists r.table.now }
+    requires small_reason { get_or (drop r.start r.table.now) reason_column 0 < 256 }
+    requires room { w.old.at + length (row_line r.segment.now r.alone (drop r.start r.table.now)) ≤ length w.old.out.now }
+    ensures { Writes w.old (row_line r.entry.segment.now r.entry.alone (drop r.entry.start r.entry.table.now)) w.new }
 {
-    let end = table[columns::LISTS_END] as usize;
-    let lists = &table[columns::LISTS..end];
-    let list = list_codes(lists, table[row + columns::LIST]);
-    let a = put_place(out, at, segment, table, row, alone);
-    let b = put_reason(out, a, table[row + columns::REASON] as u8);
-    let c = put_codes(out, b, lists, list.start, list.end);
-    put(out, c, b"\n")
+    let end = r.table[columns::LISTS_END] as usize;
+    let lists = &r.table[columns::LISTS..end];
+    let list = list_codes(lists, r.table[r.start + columns::LIST]);
+    let codes = lists.get(list.start..list.end).unwrap_or(&[]);
+    put_place(w, r);
+    put_reason(w, r.table[r.start + columns::REASON] as u8);
+    put_codes(w, codes);
+    w.put(b"\n");
 }
 
-// Whether a list of that place is asked for: field 0 for every list, component 0 for every component.
-fn is_asked(name: &[u8], field: u64, component: u64, segment: &[u8], f: u64, c: u64) -> bool
-    ensures { result ≡ (eqb field 0
-        || (same name.now segment.now && eqb field f && (eqb component 0 || eqb component c))) }
+// Whether the list of that place is asked for.
+fn is_asked(a: Asked, segment: &[u8], field: u64, component: u64) -> bool
+    ensures { result ≡ (eqb a.entry.field 0
+        || (same a.entry.name.now segment.now && eqb a.entry.field field && (eqb a.entry.component 0 || eqb a.entry.component component))) }
 {
-    (field == 0) | (is_same(name, segment) & (field == f) & ((component == 0) | (component == c)))
+    (a.field == 0)
+        | (is_same(a.name, segment)
+            & (a.field == field)
+            & ((a.component == 0) | (a.component == component)))
 }
 
-// Puts the line of the row that begins at `row`, where its leaf has a list that is asked for.
-pub fn put_row(
-    out: &mut [u8],
-    at: usize,
-    segment: &[u8],
-    table: &[u16],
-    row: usize,
-    alone: bool,
-    name: &[u8],
-    field: u64,
-    component: u64,
-) -> usize
-    requires row_inside { (row + row_size ≤ length table.now) × HasLists table.now }
-    requires known_reason { get_or (drop row table.now) type_column 0 < 10 → reason_fits (leaf_of (drop row table.now)).list ≡ true }
-    requires room { at + length
-        (row_lines name.now field component segment.now alone (drop row table.now))
-        ≤ length out.old }
-    ensures { Puts out.old at
-        (row_lines name.now field component segment.now alone (drop row table.now))
-        out.new result }
+// Puts the line of a row, where its leaf has a list that is asked for.
+pub fn put_row(w: &mut Writer, r: ListedRow, a: Asked)
+    requires row_inside { (r.start + row_size ≤ length r.table.now) × HasLists r.table.now }
+    requires known_reason { get_or (drop r.start r.table.now) type_column 0 < 10 → reason_fits (leaf_of (drop r.start r.table.now)).list ≡ true }
+    requires room { w.old.at + length
+        (row_lines a.name.now a.field a.component r.segment.now r.alone (drop r.start r.table.now))
+        ≤ length w.old.out.now }
+    ensures { Writes w.old
+        (row_lines a.entry.name.now a.entry.field a.entry.component r.entry.segment.now r.entry.alone (drop r.entry.start r.entry.table.now))
+        w.new }
 {
-    if (table[row + columns::LIST] == numbers::ANY)
-        | (numbers::NAMED_BY <= table[row + columns::TYPE])
+    if (r.table[r.start + columns::LIST] == numbers::ANY)
+        | (numbers::NAMED_BY <= r.table[r.start + columns::TYPE])
     {
-        return at;
+        return;
     }
-    let f = table[row + columns::FIELD] as u64;
-    let c = table[row + columns::COMPONENT] as u64;
-    if !is_asked(name, field, component, segment, f, c) {
-        return at;
+    let field = r.table[r.start + columns::FIELD] as u64;
+    let component = r.table[r.start + columns::COMPONENT] as u64;
+    if !is_asked(a, r.segment, field, component) {
+        return;
     }
-    put_line(out, at, segment, table, row, alone)
+    put_line(w, r);
 }

@@ -9,7 +9,8 @@ use lib.Seq.{get_or-drop}
 use lib.Dec.{eqb, ltb}
 use borrow.Author.Tests.{eqb-true, ltb-true, ltb-false}
 use Rattle.text.specs.Bytes.{Text, every}
-use Rattle.text.specs.Puts.{Puts}
+use Rattle.text.specs.declared.writer.Writer.{Writer}
+use Rattle.text.specs.Writes.{Writes}
 use Rattle.text.proofs.Tests.{both}
 use Rattle.profile.specs.Numbers.{leaf_of, listed_of, rows_within, row_size, segment_column, field_column, type_column}
 use Rattle.profile.specs.Order.{is_proper, reason_fits, same_field}
@@ -99,28 +100,29 @@ rows_end table first next row name f k n alone l = rw (rows_none table row next 
 
 -- THE LINES OF A FIELD: those of the rows passed stand there, and those of the rows left are still to be put
 module _ (table : List ℕ) (first next : ℕ) (n name : Text) (f k : ℕ) where
-  pub record PutsRows (alone : Bool) (before : Text) (at : ℕ) (out : Text) (to row : ℕ) : Type 0 where
+  pub record PutsRows (alone : Bool) (before out : Writer) (row : ℕ) : Type 0 where
     pub left : RowsLeft table first next row
-    pub putting : Putting before at (asked_lines name f k (field_lists n (rule_at table first next))) out to (asked_lines name f k (lists_left table n first alone next row))
+    pub putting : Putting before (asked_lines name f k (field_lists n (rule_at table first next))) out (asked_lines name f k (lists_left table n first alone next row))
 
-module _ {table : List ℕ} {first next : ℕ} {n name : Text} {f k : ℕ} {before : Text} {at : ℕ} where
-  pub puts-rows-first : {s : ℕ} → IsField table s first next → at + length (asked_lines name f k (field_lists n (rule_at table first next))) ≤ length before
-      → PutsRows table first next n name f k (ltb (next - first) (2 * row_size)) before at before at first
+module _ {table : List ℕ} {first next : ℕ} {n name : Text} {f k : ℕ} {before : Writer} where
+  pub puts-rows-first : {s : ℕ} → IsField table s first next
+      → before.at + length (asked_lines name f k (field_lists n (rule_at table first next))) ≤ length before.out.now
+      → PutsRows table first next n name f k (ltb (next - first) (2 * row_size)) before before first
   puts-rows-first is h =
       record {
         left = rows-first is;
         putting = putting-first (ap (asked_lines name f k) (lists-all table first next (omega (arith, is.some)) n)) h;
       }
 
-  module _ {alone : Bool} {out : Text} {to row : ℕ} (w : PutsRows table first next n name f k alone before at out to row) where
-    pub row_room : row_size ≤ next - row → to + length (row_lines name f k n alone (drop row table)) ≤ length out
+  module _ {alone : Bool} {out : Writer} {row : ℕ} (w : PutsRows table first next n name f k alone before out row) where
+    pub row_room : row_size ≤ next - row → out.at + length (row_lines name f k n alone (drop row table)) ≤ length out.out.now
     row_room more =
         putting-room w.putting (row_lines name f k n alone (drop row table)) (asked_lines name f k (lists_left table n first alone next (row + row_size)))
         (row_lines_lem w.left more name f k n alone)
 
-    pub puts_row : {after : Text} {r : ℕ} → row_size ≤ next - row → Puts out to (row_lines name f k n alone (drop row table)) after r
-        → PutsRows table first next n name f k alone before at after r (row + row_size)
+    pub puts_row : {after : Writer} → row_size ≤ next - row → Writes out (row_lines name f k n alone (drop row table)) after
+        → PutsRows table first next n name f k alone before after (row + row_size)
     puts_row more p = record { left = rows_on w.left more; putting = putting-on w.putting (row_lines_lem w.left more name f k n alone) p }
 
-    pub puts-rows : next - row < row_size → Puts before at (asked_lines name f k (field_lists n (rule_at table first next))) out to
+    pub puts-rows : next - row < row_size → Writes before (asked_lines name f k (field_lists n (rule_at table first next))) out
     puts-rows l = putting-end w.putting (rows_end table first next row name f k n alone l)

@@ -7,13 +7,14 @@ use mathlib.Core.List.{List, [], ◌∷◌, ◌++◌, map, flat_map}
 use lib.ListN.{length, get_or}
 use borrow.Author.Tests.{eq-eqb}
 use Rattle.text.specs.Bytes.{Text, some, keep, same}
-use Rattle.text.specs.Puts.{Puts}
+use Rattle.text.specs.declared.writer.Writer.{Writer}
+use Rattle.text.specs.Writes.{Writes}
 use Rattle.text.proofs.Lists.{or-none}
-use Rattle.text.proofs.Puts.{puts_none}
+use Rattle.chart.proofs.CodeByCode.{writes_none}
 use Rattle.profile.specs.Table.{Row, Rule, gathered, rules_of}
 use Rattle.profile.specs.Numbers.{row_of, rows_within, row_size, segment_number, table_of}
 use Rattle.profile.specs.Order.{Sound}
-use Rattle.codes.specs.declared.rows.Rows.{Rows}
+use Rattle.text.specs.declared.span.Span.{Span}
 use Rattle.codes.specs.Inner.{Under, rule_at}
 use Rattle.codes.proofs.RowSteps.{rows_none}
 use Rattle.codes.proofs.OneField.{rules_at}
@@ -40,7 +41,7 @@ abbrev fields_left : List ℕ → Text → ℕ → ℕ → List Charted
 fields_left table n end at = flat_map (field_lists n) (gathered (map (row_of n) (rows_within at end table)))
 
 -- all of them
-fields-all : {table : List ℕ} (n : Text) {k : ℕ} {r : Rows} → segment_number n ≡ k → 1 ≤ k → Under table k r
+fields-all : {table : List ℕ} (n : Text) {k : ℕ} {r : Span} → segment_number n ≡ k → 1 ≤ k → Under table k r
     → segment_lists (table_of table) n ≡ fields_left table n r.end r.start
 unfolding segment_lists
 fields-all {table} n {k} e h u =
@@ -74,34 +75,34 @@ segment-none {table} n name f c s e =
     let l : some (λ (r : Row). same r.segment n) (table_of table).rows ≡ false = listed-number table s n ∙ rw (eq-eqb (segment_number n) 0 e) in
     rw (keep-none (λ (r : Row). same r.segment n) (table_of table).rows l) (asked-none name f c)
 
-pub puts-unlisted : (table : List ℕ) (n name : Text) (f c : ℕ) (before : Text) (at : ℕ) → Sound table → segment_number n ≡ 0
-    → at + length (asked_lines name f c (segment_lists (table_of table) n)) ≤ length before
-    → Puts before at (asked_lines name f c (segment_lists (table_of table) n)) before at
-puts-unlisted table n name f c before at s e room = rw (segment-none n name f c s e) (puts_none before at (omega arith))
+pub puts-unlisted : (table : List ℕ) (n name : Text) (f c : ℕ) (before : Writer) → Sound table → segment_number n ≡ 0
+    → before.at + length (asked_lines name f c (segment_lists (table_of table) n)) ≤ length before.out.now
+    → Writes before (asked_lines name f c (segment_lists (table_of table) n)) before
+puts-unlisted table n name f c before s e room = rw (segment-none n name f c s e) (writes_none before (omega arith))
 
 -- THE LINES OF A SEGMENT: those of the fields passed stand there, and those of the fields left are still to be put
 module _ (table : List ℕ) (n name : Text) (f c : ℕ) where
-  pub record PutsFields (k end : ℕ) (before : Text) (at : ℕ) (out : Text) (to first : ℕ) : Type 0 where
+  pub record PutsFields (k end : ℕ) (before out : Writer) (first : ℕ) : Type 0 where
     pub left : Left table k first end
-    pub putting : Putting before at (asked_lines name f c (segment_lists (table_of table) n)) out to (asked_lines name f c (fields_left table n end first))
+    pub putting : Putting before (asked_lines name f c (segment_lists (table_of table) n)) out (asked_lines name f c (fields_left table n end first))
 
-module _ {table : List ℕ} {n name : Text} {f c k : ℕ} {before : Text} {at : ℕ} where
-  pub puts-fields-first : {r : Rows} → segment_number n ≡ k → 1 ≤ k → Under table k r
-      → at + length (asked_lines name f c (segment_lists (table_of table) n)) ≤ length before
-      → PutsFields table n name f c k r.end before at before at r.start
+module _ {table : List ℕ} {n name : Text} {f c k : ℕ} {before : Writer} where
+  pub puts-fields-first : {r : Span} → segment_number n ≡ k → 1 ≤ k → Under table k r
+      → before.at + length (asked_lines name f c (segment_lists (table_of table) n)) ≤ length before.out.now
+      → PutsFields table n name f c k r.end before before r.start
   puts-fields-first e h u room =
       record { left = left-first u; putting = putting-first (ap (asked_lines name f c) (sym (fields-all n e h u))) room }
 
-  module _ {end : ℕ} {out : Text} {to first : ℕ} (w : PutsFields table n name f c k end before at out to first) where
-    pub field_room : {next : ℕ} → Ahead table k first end next → to + length (asked_lines name f c (field_lists n (rule_at table first next))) ≤ length out
+  module _ {end : ℕ} {out : Writer} {first : ℕ} (w : PutsFields table n name f c k end before out first) where
+    pub field_room : {next : ℕ} → Ahead table k first end next → out.at + length (asked_lines name f c (field_lists n (rule_at table first next))) ≤ length out.out.now
     field_room {next} a =
         putting-room w.putting (asked_lines name f c (field_lists n (rule_at table first next))) (asked_lines name f c (fields_left table n end next))
         (field-lines a name f c n)
 
-    pub puts-field : {next : ℕ} {after : Text} {r : ℕ} → Ahead table k first end next
-        → Puts out to (asked_lines name f c (field_lists n (rule_at table first next))) after r
-        → PutsFields table n name f c k end before at after r next
+    pub puts-field : {next : ℕ} {after : Writer} → Ahead table k first end next
+        → Writes out (asked_lines name f c (field_lists n (rule_at table first next))) after
+        → PutsFields table n name f c k end before after next
     puts-field a p = record { left = left-on a; putting = putting-on w.putting (field-lines a name f c n) p }
 
-    pub puts-fields : end - first < row_size → Puts before at (asked_lines name f c (segment_lists (table_of table) n)) out to
+    pub puts-fields : end - first < row_size → Writes before (asked_lines name f c (segment_lists (table_of table) n)) out
     puts-fields l = putting-end w.putting (fields-end table n end first name f c l)

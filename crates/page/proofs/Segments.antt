@@ -1,11 +1,11 @@
 -- The lines of all segments, one after another.
 use mathlib.Core.Path.{◌≡◌, refl, sym, ap, ◌∙◌}
 use Prim.Native.Nat.{ℕ, ◌+◌, ◌≤◌}
-use native.Mathlib.Omega.{arith}
 use mathlib.Core.List.{List, [], ◌∷◌, ◌++◌, map, flat_map}
 use lib.ListN.{length}
 use Rattle.text.specs.Bytes.{Text, keep, same}
-use Rattle.text.specs.Puts.{Puts}
+use Rattle.text.specs.declared.writer.Writer.{Writer}
+use Rattle.text.specs.Writes.{Writes}
 use Rattle.profile.specs.Table.{Succession, gathered, rules_of}
 use Rattle.profile.specs.Numbers.{segment_names, table_of, AreTable}
 use Rattle.profile.specs.Noted.{noted}
@@ -48,27 +48,27 @@ module _ (name : Text) (f k : ℕ) where
       ∙ lines-from profile01.succession
 
 -- THE LINES OF THE LISTS: those of the segments passed stand there, and those of the segments with these names are still to be put
-pub record PutsSegments (name : Text) (f k : ℕ) (before out : Text) (to : ℕ) (ns : List Text) : Type 0 where
-  pub putting : Putting before 0 (asked_lines name f k (charted profile01)) out to (lines_from name f k ns)
+pub record PutsSegments (name : Text) (f k : ℕ) (before out : Writer) (ns : List Text) : Type 0 where
+  pub putting : Putting before (asked_lines name f k (charted profile01)) out (lines_from name f k ns)
 
-pub puts-segments-first : {name : Text} {f k : ℕ} {before : Text} → length (asked_lines name f k (charted profile01)) ≤ length before
-    → PutsSegments name f k before before 0 segment_names
-puts-segments-first {name} {f} {k} h = record { putting = putting-first (lines-all name f k) (omega arith) }
+pub puts-segments-first : {name : Text} {f k : ℕ} {before : Writer}
+    → before.at + length (asked_lines name f k (charted profile01)) ≤ length before.out.now → PutsSegments name f k before before segment_names
+puts-segments-first {name} {f} {k} h = record { putting = putting-first (lines-all name f k) h }
 
-module _ {table : List ℕ} (are : AreTable table profile01) {name : Text} {f k : ℕ} {before out : Text} {to : ℕ} {n : Text} {ns : List Text}
-    (w : PutsSegments name f k before out to (n ∷ ns)) where
+module _ {table : List ℕ} (are : AreTable table profile01) {name : Text} {f k : ℕ} {before out : Writer} {n : Text} {ns : List Text}
+    (w : PutsSegments name f k before out (n ∷ ns)) where
   -- the next segment's lines, as the numbers tell them
   segment-lines : lines_from name f k (n ∷ ns) ≡ asked_lines name f k (segment_lists (table_of table) n) ++ lines_from name f k ns
   unfolding lines_from
   segment-lines = rw (are_same_table table profile01 are)
 
-  pub segment-room : to + length (asked_lines name f k (segment_lists (table_of table) n)) ≤ length out
+  pub segment-room : out.at + length (asked_lines name f k (segment_lists (table_of table) n)) ≤ length out.out.now
   segment-room = putting-room w.putting (asked_lines name f k (segment_lists (table_of table) n)) (lines_from name f k ns) segment-lines
 
-  pub puts-segment : {after : Text} {r : ℕ} → Puts out to (asked_lines name f k (segment_lists (table_of table) n)) after r → PutsSegments name f k before after r ns
+  pub puts-segment : {after : Writer} → Writes out (asked_lines name f k (segment_lists (table_of table) n)) after → PutsSegments name f k before after ns
   puts-segment p = record { putting = putting-on w.putting segment-lines p }
 
-pub puts-segments : {name : Text} {f k : ℕ} {before out : Text} {to : ℕ} → PutsSegments name f k before out to []
-    → Puts before 0 (asked_lines name f k (charted profile01)) out to
+pub puts-segments : {name : Text} {f k : ℕ} {before out : Writer} → PutsSegments name f k before out []
+    → Writes before (asked_lines name f k (charted profile01)) out
 unfolding lines_from
 puts-segments w = putting-end w.putting refl

@@ -16,12 +16,12 @@ use Rattle.std.proofs.Common.{Option, None, Some, Result, Ok, Err}
 use Rattle.text.specs.declared.refusal.Refusal.{Refusal}
 use Rattle.text.specs.declared.refusal.Refusal.TheVariants.{BadStamp, BadReplyNumber, NoControlNumber, NoRoom}
 use Rattle.text.proofs.Answer.{first-passed, first-refused, first-asked, given-passes, tell-first}
-use Rattle.text.proofs.Puts.{puts-length, puts-head, puts-both, puts-front-room, puts-front-ends, puts-front}
+use Rattle.text.proofs.Puts.{puts-head, puts-front-room, puts-front-ends, puts-front}
 use Rattle.parts.specs.Split.{led, join, closed}
 use Rattle.frame.specs.Frame.{frame_tests, framed}
 use Rattle.profile.specs.Profile.{profile01}
 use Rattle.reader.specs.declared.Fault as code
-use Rattle.reader.specs.Fault.{Verdict, accepted, fault, verdict, judge}
+use Rattle.reader.specs.Fault.{Verdict, fault, verdict, judge}
 use Rattle.reader.specs.Reasons.{number_of_reason}
 use Rattle.reader.specs.Told.{place_of, verdict_told, verdict_of}
 use Rattle.heading.specs.Header.{reply_header}

@@ -10,7 +10,7 @@ ghost use Rattle.reader.specs.Told.{place_of};
 ghost use Rattle.report.specs.Error.{place_text};
 ghost use Rattle.report.specs.Inner.{code_of, error_of, error_text, condition_words};
 
-use reader::{Fault, Place, condition};
+use reader::{Fault, Place};
 use text::Writer;
 
 // From this condition on a message is rejected.
@@ -58,11 +58,11 @@ fn put_place(w: &mut Writer, p: Place)
     put_number(w, e, p.subcomponent);
 }
 
-// The condition of a reason, its text, and the table they stand in.
-fn condition_words(reason: u8) -> &'static [u8]
-    ensures { result.now ≡ condition_words reason }
+// The condition of a fault, its text, and the table they stand in.
+fn condition_words(f: Fault) -> &'static [u8]
+    ensures { result.now ≡ condition_words (number_of_reason f.reason) }
 {
-    match condition(reason) {
+    match f.condition() {
         100 => b"100^Segment sequence error^HL70357",
         101 => b"101^Required field missing^HL70357",
         102 => b"102^Data type error^HL70357",
@@ -83,7 +83,7 @@ fn put_fault(w: &mut Writer, f: Fault)
     w.put(b"ERR||");
     put_place(w, f.place);
     w.put(b"|");
-    w.put(condition_words(f.number()));
+    w.put(condition_words(f));
     w.put(b"|E\r");
 }
 

@@ -23,9 +23,8 @@ use Rattle.reader.specs.Copied.{standing}
 use Rattle.reader.proofs.Seek.{standing-missing, standing_enough}
 use Rattle.profile.specs.Profile.{profile01}
 use Rattle.reader.specs.declared.Fault as code-fault
-use Rattle.reader.specs.Fault.{Verdict, verdict, accepted, fault, judge}
-use Rattle.reader.specs.Reasons.{number_of_reason}
-use Rattle.reader.specs.Told.{place_of, verdict_of}
+use Rattle.reader.specs.Fault.{Verdict, verdict, accepted, judge}
+use Rattle.reader.specs.Told.{verdict_told, verdict_of}
 use Rattle.slot.specs.Slot.{slot_size, slot_start, no_slot}
 use Rattle.slip.specs.Slip.{slip_text}
 use Rattle.slip.specs.Book.{own_tests, is_accepted, no_group, file, book_after}
@@ -114,7 +113,7 @@ module _ (m : Text) (g k : ℕ) (before : Text) (v : Result (Option code-fault.F
   pub files-fault : (f : code-fault.Fault) → v ≡ Ok (Some f) → Files profile01 m g k before (Err NotAccepted) before
   unfolding first
   files-fault f e =
-      let x = fault (place_of f.place) (number_of_reason f.reason) in
+      let x = verdict_told (Some f) in
       let h : verdict_of v ≡ given x = ap verdict_of e in
       files (Err NotAccepted) before (refused NotAccepted) (through x h ∙ rw (good x h).1) refl refl
 

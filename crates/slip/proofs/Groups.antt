@@ -7,13 +7,12 @@ use mathlib.Core.Bool.{Bool, true, false}
 use mathlib.Core.List.{List, [], ◌∷◌}
 use lib.ListN.{length, get_or, drop, length-drop}
 use lib.Seq.{length-take-le, drop-drop}
-use lib.Dec.{ltb}
-use borrow.Author.Tests.{ltb-true, ltb-false}
-use Rattle.text.specs.Bytes.{Text, pick, bytes, cr, keep}
+use borrow.Author.Tests.{ltb-false}
+use Rattle.text.specs.Bytes.{Text, pick, bytes, cr}
 use Rattle.parts.specs.Split.{ended}
 use Rattle.parts.specs.Start.{before, reach}
 use Rattle.parts.proofs.Split.{before-first}
-use Rattle.parts.proofs.Reach.{ended-next, ended-last, before-next}
+use Rattle.parts.proofs.Reach.{ended-next, before-next}
 use Rattle.parts.proofs.Descent.{within-length}
 use Rattle.std.proofs.Common.{Some}
 use Rattle.text.specs.declared.span.Span.{Span}
@@ -21,24 +20,20 @@ use Rattle.frame.specs.Segments.{segments, named, of_name}
 use Rattle.frame.specs.Starts.{ahead}
 use Rattle.reader.specs.Copied.{standing}
 use Rattle.frame.proofs.Segments.{ahead-named}
-use Rattle.reader.proofs.Seek.{standing_enough, standing-start, standing-inside, standing-text}
+use Rattle.reader.proofs.Seek.{ahead-inside, separator-ahead, standing_enough, standing-start, standing-inside, standing-text}
 use Rattle.reader.specs.Observations.{observations, observations_from, observations_of}
 
 -- where a piece that a separator ends stands, and what stands after it
 module _ (sep : ℕ) where
-  ahead_step : (t : Text) (b : Bool) → ltb (reach sep t) (length t) ≡ b → 1 ≤ length (ended sep t) → reach sep t < length t
-  ahead_step t true e h = ltb-true (reach sep t) (length t) e
-  ahead_step t false e h = absurd (omega (arith, ap length (ended-last sep t (ltb-false (reach sep t) (length t) e))))
-
   pieces-behind : (i : ℕ) (t : Text) (e : ℕ) → i < length (ended sep t) → e ≡ before sep t i + length (get_or (ended sep t) i [])
       → (e < length t) × (ended sep (drop (suc e) t) ≡ drop (suc i) (ended sep t))
   pieces-behind zero t e h k =
-      let l = ahead_step t (ltb (reach sep t) (length t)) refl (omega arith) in
+      let l = separator-ahead sep t (omega arith) in
       let n = ended-next sep t l in
       let z : e ≡ reach sep t = omega (arith, before-first sep t, rw n at k, length-take-le (reach sep t) t (omega arith)) in
       (omega arith, rw (n, z))
   pieces-behind (suc i) t e h k =
-      let l = ahead_step t (ltb (reach sep t) (length t)) refl (omega arith) in
+      let l = separator-ahead sep t (omega arith) in
       let n = ended-next sep t l in
       let u = drop (suc (reach sep t)) t in
       let d = before sep u i + length (get_or (ended sep u) i []) in
@@ -58,19 +53,6 @@ unfolding observations_from ahead observations
 group_from [] i = refl
 group_from (s ∷ ss) zero = from_step s ss (named (bytes "OBR") s) (group_from ss 0)
 group_from (s ∷ ss) (suc i) = group_from ss (pick (named (bytes "OBR") s) i (suc i))
-
-inside-step : (n s : Text) (ss : List Text) (b : Bool) → named n s ≡ b → ((i : ℕ) → i < length (of_name n ss) → ahead n ss i < length ss)
-    → (i : ℕ) → i < length (pick b (s ∷ of_name n ss) (of_name n ss)) → ahead n (s ∷ ss) i < suc (length ss)
-unfolding ahead
-inside-step n s ss true e ih zero h = rw e (omega arith)
-inside-step n s ss true e ih (suc i) h = rw e (omega (arith, ih i (omega arith)))
-inside-step n s ss false e ih zero h = rw e (omega (arith, ih 0 h))
-inside-step n s ss false e ih (suc i) h = rw e (omega (arith, ih (suc i) h))
-
-ahead-inside : (n : Text) (ss : List Text) (i : ℕ) → i < length (of_name n ss) → ahead n ss i < length ss
-unfolding keep
-ahead-inside n [] i h = absurd (omega arith)
-ahead-inside n (s ∷ ss) i h = inside-step n s ss (named n s) refl (ahead-inside n ss) i h
 
 -- THE COUNT of the group whose OBR stands there, told from after that OBR's CR
 pub group_count : (m : Text) (g : ℕ) (s : Span) → 1 ≤ g → Some s ≡ standing m (bytes "OBR") g

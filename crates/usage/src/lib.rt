@@ -39,10 +39,8 @@ fn is_filled(s: &[u8], q: Marks, table: &[u16], k: u16, number: u16) -> bool
     let mut at = rows.start;
     while columns::ROW <= last - at {
         let end = next_field(table, at);
-        if table[at + columns::FIELD] == number {
-            if starts_filled(s, q, table, k, at, end) {
-                return true;
-            }
+        if table[at + columns::FIELD] == number && starts_filled(s, q, table, k, at, end) {
+            return true;
         }
         at = end;
     }

@@ -3,14 +3,8 @@ use native.Mathlib.Omega.{arith}
 use lib.ListN.{length}
 use Rattle.text.specs.Bytes.{within}
 use Rattle.cursor.proofs.Moving.{cursor-inside}
-use Rattle.located.proofs.FieldText.{before-field, field_at}
+use Rattle.located.proofs.FieldText.{field_at}
 use Rattle.located.proofs.field_text.Goals as goal
-
-pub overflow_sub-number : goal.overflow_sub-number
-overflow_sub-number c = omega (arith, c.fields_before-before.ensures, before-field c.args.k c.args.number c.requires.1)
-
-pub advance-p-requires : goal.advance-p-requires
-advance-p-requires c = (c.first_piece-first.ensures.0, omega (arith, c.fields_before-before.ensures, c.first_piece-first.ensures.1, before-field c.args.k c.args.number c.requires.1))
 
 pub slice_bounds-result-end : goal.slice_bounds-result-end
 slice_bounds-result-end c = omega (arith, cursor-inside c.args.q.field (within c.fields_start-skip.result (length c.args.s.now) c.args.s.now) c.advance-p.result c.advance-p.ensures.0)

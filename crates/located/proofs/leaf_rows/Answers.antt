@@ -1,15 +1,9 @@
 -- `leaf_rows`: the field's own rows, or those of the type that the named field's first leaf names.
-use Prim.Native.Nat.{◌+◌}
-use native.Mathlib.Omega.{arith}
-use Rattle.profile.specs.Numbers.{type_column}
 use Rattle.located.proofs.FieldLeaves.{lists-own, named-from, lists_named}
 use Rattle.located.proofs.leaf_rows.Goals as goal
 
 pub returns-then-named-lt-NAMED_BY : goal.returns-then-named-lt-NAMED_BY
 returns-then-named-lt-NAMED_BY c = lists-own c.args.q c.args.table.now c.args.s.now c.args.k c.args.at c.args.end c.requires.field c.requires.sound.0.lists c.if-named-lt-NAMED_BY.true
-
-pub overflow_cast-named : goal.overflow_cast-named
-overflow_cast-named c = omega (arith, c.type_inv.table (c.args.at + type_column))
 
 pub named_rows-requires : goal.named_rows-requires
 named_rows-requires c = record {

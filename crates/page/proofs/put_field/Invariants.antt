@@ -3,8 +3,8 @@ use Prim.Native.Nat.{◌-◌}
 use Rattle.page.proofs.FieldRows.{PutsRows}
 use Rattle.page.proofs.put_field.Given as goal
 
-abbrev pub invariant-loop-row : goal.invariant-loop-row
-invariant-loop-row l = PutsRows l.table l.first l.next l.segment l.name l.field l.component l.alone l.initial.out l.at l.out l.to l.row
+abbrev pub invariant-loop-start : goal.invariant-loop-start
+invariant-loop-start l = PutsRows l.table l.first l.next l.segment l.a.name.now l.a.field l.a.component l.alone l.initial.w l.w l.start
 
-abbrev pub decreases-loop-row : goal.decreases-loop-row
-decreases-loop-row l = l.next - l.row
+abbrev pub decreases-loop-start : goal.decreases-loop-start
+decreases-loop-start l = l.next - l.start

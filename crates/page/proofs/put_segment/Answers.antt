@@ -2,7 +2,6 @@
 use mathlib.Core.Path.{◌≡◌, ◌∙◌}
 use Prim.Native.Nat.{◌≤◌}
 use native.Mathlib.Omega.{arith}
-use Rattle.text.proofs.Puts.{puts-length}
 use Rattle.profile.specs.Numbers.{segment_number}
 use Rattle.codes.proofs.Numbered.{named-number}
 use Rattle.usage.proofs.SegmentFields.{Ahead, ahead, ahead-field, ahead_falls}
@@ -24,7 +23,7 @@ here c = ahead c.loop-first.invariant.left c.loop-first-test.true c.next_field-n
 
 pub returns-then-k-eq0 : goal.returns-then-k-eq0
 returns-then-k-eq0 c =
-    puts-unlisted c.args.table.now c.args.segment.now c.args.name.now c.args.field c.args.component c.args.out.now c.args.at c.requires.sound.0
+    puts-unlisted c.args.table.now c.args.segment.now c.args.a.name.now c.args.a.field c.args.a.component c.args.w.now c.requires.sound.0
     (numbered (goal.at.returns-then-k-eq0 c).After-segment_number-k ∙ c.if-k-eq0.true)
     c.requires.room
 
@@ -45,19 +44,16 @@ overflow_sub-end c = c.loop-first.invariant.left.order
 pub next_field-next-requires : goal.next_field-next-requires
 next_field-next-requires c = omega (arith, c.loop-first-test.true, c.loop-first.invariant.left.order, c.loop-first.invariant.left.inside)
 
-pub put_field-to-requires : goal.put_field-to-requires
-put_field-to-requires c =
-    let h = here (goal.at.put_field-to-requires c).After-next_field-next in
+pub put_field-requires : goal.put_field-requires
+put_field-requires c =
+    let h = here (goal.at.put_field-requires c).After-next_field-next in
     record { has_lists = (c.requires.sound.0.lists, (c.segment_number-k.result, ahead-field h)); room = field_room c.loop-first.invariant h }
 
 pub loop-first-smaller : goal.loop-first-smaller
 loop-first-smaller c = ahead_falls (here (goal.at.loop-first-smaller c).After-next_field-next)
 
 pub loop-first-preserved : goal.loop-first-preserved
-loop-first-preserved c = puts-field c.loop-first.invariant (here (goal.at.loop-first-preserved c).After-next_field-next) c.put_field-to.ensures
-
-pub shape_of-out : goal.shape_of-out
-shape_of-out c = puts-length c.loop-first.invariant.putting.puts
+loop-first-preserved c = puts-field c.loop-first.invariant (here (goal.at.loop-first-preserved c).After-next_field-next) c.put_field.ensures
 
 pub returns : goal.returns
 returns c = puts-fields c.loop-first.invariant c.loop-first-test.false

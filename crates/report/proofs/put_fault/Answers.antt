@@ -2,10 +2,9 @@
 use native.Mathlib.Omega.{arith}
 use Rattle.text.proofs.Writes.{writes-both, writes-length}
 use lib.ListN.{length}
-use mathlib.Core.Path.{ap, ◌∙◌}
+use mathlib.Core.Path.{ap}
 use Rattle.reader.specs.Reasons.{number_of_reason}
 use Rattle.reader.specs.Told.{place_of}
-use Rattle.report.specs.Inner.{condition_words}
 use Rattle.report.proofs.ErrorLaws.{error_written, error_length}
 use Rattle.report.proofs.put_fault.Goals as goal
 
@@ -19,11 +18,11 @@ pub put-requires-2 : goal.put-requires-2
 put-requires-2 c = omega (arith, error_length (place_of c.args.f.place) (number_of_reason c.args.f.reason), writes-length c.put.ensures, writes-length c.put_place.ensures)
 
 pub put-requires-3 : goal.put-requires-3
-put-requires-3 c = omega (arith, error_length (place_of c.args.f.place) (number_of_reason c.args.f.reason), writes-length c.put.ensures, writes-length c.put_place.ensures, writes-length c.put-2.ensures, ap length (c.condition_words.ensures ∙ ap condition_words c.number.ensures))
+put-requires-3 c = omega (arith, error_length (place_of c.args.f.place) (number_of_reason c.args.f.reason), writes-length c.put.ensures, writes-length c.put_place.ensures, writes-length c.put-2.ensures, ap length c.condition_words.ensures)
 
 pub put-requires-4 : goal.put-requires-4
-put-requires-4 c = omega (arith, error_length (place_of c.args.f.place) (number_of_reason c.args.f.reason), writes-length c.put.ensures, writes-length c.put_place.ensures, writes-length c.put-2.ensures, writes-length c.put-3.ensures, ap length (c.condition_words.ensures ∙ ap condition_words c.number.ensures))
+put-requires-4 c = omega (arith, error_length (place_of c.args.f.place) (number_of_reason c.args.f.reason), writes-length c.put.ensures, writes-length c.put_place.ensures, writes-length c.put-2.ensures, writes-length c.put-3.ensures, ap length c.condition_words.ensures)
 
 pub returns : goal.returns
-returns c = rw (c.condition_words.ensures, c.number.ensures, error_written (place_of c.args.f.place) (number_of_reason c.args.f.reason)) at
+returns c = rw (c.condition_words.ensures, error_written (place_of c.args.f.place) (number_of_reason c.args.f.reason)) at
     (writes-both c.put.ensures (writes-both c.put_place.ensures (writes-both c.put-2.ensures (writes-both c.put-3.ensures c.put-4.ensures))))

@@ -2,9 +2,9 @@
 use native.Mathlib.Omega.{arith}
 use Rattle.frame.specs.Segments.{name}
 use Rattle.codes.proofs.Numbered.{named-number}
-use Rattle.usage.proofs.SegmentFields.{Ahead, ahead, ahead_row, ahead_falls, ahead-field, seeks_first, seeks_found, seeks_empty, seeks_other, seeks_none}
+use Rattle.usage.proofs.SegmentFields.{Ahead, ahead, ahead_falls, ahead-field, seeks_first, seeks_found, seeks_empty, seeks_other, seeks_none}
 use Rattle.usage.proofs.is_filled.Goals as goal
-use Rattle.usage.proofs.is_filled.Goals.{After-next_field-end}
+use Rattle.usage.proofs.is_filled.Goals.{After-next_field-end, else-table-at-via-then-table-at+else-starts_filled as blank, else-table-at-via-else-table-at as other}
 
 pub rows_under-rows-requires : goal.rows_under-rows-requires
 rows_under-rows-requires c = (c.requires.0, (c.requires.1.1, omega (arith, (named-number (name c.args.s.now) c.args.k c.requires.1.0 c.requires.1.1).0)))
@@ -12,18 +12,9 @@ rows_under-rows-requires c = (c.requires.0, (c.requires.1.1, omega (arith, (name
 pub loop-at-init : goal.loop-at-init
 loop-at-init c = seeks_first c.args.q c.args.s.now c.args.number c.requires.1 c.rows_under-rows.ensures
 
-pub overflow_sub-last : goal.overflow_sub-last
-overflow_sub-last c = c.loop-at.invariant.left.order
-
-pub next_field-end-requires : goal.next_field-end-requires
-next_field-end-requires c = omega (arith, c.loop-at-test.true, c.loop-at.invariant.left.order, c.loop-at.invariant.left.inside)
-
 -- the field where the loop stands
 here : (c : After-next_field-end) → Ahead c.args.table.now c.args.k c.loop-at.at c.rows_under-rows.result.end c.next_field-end.result
 here c = ahead c.loop-at.invariant.left c.loop-at-test.true c.next_field-end.ensures
-
-pub bounds-table-at : goal.bounds-table-at
-bounds-table-at c = omega (arith, ahead_row (here (goal.at.bounds-table-at c).After-next_field-end))
 
 pub starts_filled-requires : goal.starts_filled-requires
 starts_filled-requires c = record { sound = c.requires; field = ahead-field (here (goal.at.starts_filled-requires c).After-next_field-end) }
@@ -31,17 +22,16 @@ starts_filled-requires c = record { sound = c.requires; field = ahead-field (her
 pub returns-then-starts_filled : goal.returns-then-starts_filled
 returns-then-starts_filled c = seeks_found c.loop-at.invariant (here (goal.at.returns-then-starts_filled c).After-next_field-end) c.if-table-at.true c.starts_filled.ensures c.if-starts_filled.true
 
-pub loop-at-smaller-else-starts_filled : goal.loop-at-smaller-else-starts_filled
-loop-at-smaller-else-starts_filled c = ahead_falls (here (goal.at.loop-at-smaller-else-starts_filled c).After-next_field-end)
-
-pub loop-at-preserved-else-starts_filled : goal.loop-at-preserved-else-starts_filled
-loop-at-preserved-else-starts_filled c = seeks_empty c.loop-at.invariant (here (goal.at.loop-at-preserved-else-starts_filled c).After-next_field-end) c.starts_filled.ensures c.if-starts_filled.false
-
 pub loop-at-smaller : goal.loop-at-smaller
 loop-at-smaller c = ahead_falls (here (goal.at.loop-at-smaller c).After-next_field-end)
 
 pub loop-at-preserved : goal.loop-at-preserved
-loop-at-preserved c = seeks_other c.loop-at.invariant (here (goal.at.loop-at-preserved c).After-next_field-end) c.if-table-at.false
+loop-at-preserved c =
+    let on = here (goal.at.loop-at-preserved c).After-next_field-end in
+    elim c.else-table-at.branch [
+      | blank w ↦ seeks_empty c.loop-at.invariant on w.starts_filled.ensures w.if-starts_filled.false
+      | other w ↦ seeks_other c.loop-at.invariant on w.if-table-at.false
+    ]
 
 pub returns : goal.returns
 returns c = seeks_none c.loop-at.invariant c.loop-at-test.false

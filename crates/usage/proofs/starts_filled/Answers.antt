@@ -1,21 +1,12 @@
 -- `starts_filled`: the field's text is read by the rows of its leaves.
-use Prim.Native.Nat.{◌+◌}
-use native.Mathlib.Omega.{arith}
-use Rattle.profile.specs.Numbers.{field_column, repetitions_column}
 use Rattle.codes.proofs.OneField.{field-low, field-most}
 use Rattle.located.specs.Listed.{leaves_of_field}
 use Rattle.located.proofs.FieldLeaves.{lists_itself}
 use Rattle.usage.proofs.FieldSeen.{filled_is}
 use Rattle.usage.proofs.starts_filled.Goals as goal
 
-pub overflow_cast-table : goal.overflow_cast-table
-overflow_cast-table c = omega (arith, c.type_inv.table (c.args.at + field_column))
-
 pub field_text-x-requires : goal.field_text-x-requires
 field_text-x-requires c = (c.requires.sound.1, field-low c.args.table.now c.args.k c.args.at c.args.end c.requires.field)
-
-pub overflow_cast-table-2 : goal.overflow_cast-table-2
-overflow_cast-table-2 c = omega (arith, c.type_inv.table (c.args.at + repetitions_column))
 
 pub read_field-r-requires : goal.read_field-r-requires
 read_field-r-requires c = (

@@ -4,9 +4,7 @@ use mathlib.Core.Path.{ap, sym, ◌∙◌}
 use Rattle.std.proofs.Common.{Some}
 use Rattle.std.proofs.lemmas.Result.{err_from_is_err_and}
 use Rattle.tags.proofs.SlipField.{field_as}
-use Rattle.text.specs.declared.refusal.Refusal.TheVariants.{NoTag}
 use Rattle.book.proofs.ReadSlip.{read_none, read-bad, read_here, read_past, read_no_slip, read_count, read_found}
-use Rattle.book.specs.Told.{value_of}
 use Rattle.book.proofs.reading.read_in.Goals as goal
 use Rattle.book.proofs.reading.read_in.Goals.{else-tag-from, then-tag-from}
 

@@ -1,17 +1,18 @@
 -- `put_codes`: where the codes that are left are put, all are.
-use Prim.Native.Nat.{◌+◌, ◌-◌, ◌≤◌}
+use Prim.Native.Nat.{◌+◌, ◌≤◌}
 use mathlib.Core.Path.{◌≡◌}
 use mathlib.Core.Bool.{true}
 use lib.ListN.{length}
-use Rattle.text.specs.Bytes.{within}
 use Rattle.profile.specs.Codes.{are_codes}
-use Rattle.chart.proofs.CodeByCode.{led_from, Leaves}
+use Rattle.chart.proofs.CodeByCode.{codes_led, Leaves}
 use Rattle.chart.proofs.row.put_codes.Given as goal
 
-abbrev pub invariant-loop-i : goal.invariant-loop-i
-invariant-loop-i l = (are_codes (within l.i l.end l.table) ≡ true)
-    × ((length l.out ≡ length l.initial.out)
-    × ((l.to + length (led_from l.table l.i l.end) ≤ length l.out) × Leaves l.initial.out l.initial.to (led_from l.table l.start l.end) l.out l.to (led_from l.table l.i l.end)))
+abbrev pub invariant-loop-number : goal.invariant-loop-number
+invariant-loop-number l = record {
+  are : are_codes l.left ≡ true;
+  room : l.w.at + length (codes_led l.left) ≤ length l.w.out.now;
+  leaves : Leaves l.initial.w (codes_led l.codes) l.w (codes_led l.left);
+}
 
-abbrev pub decreases-loop-i : goal.decreases-loop-i
-decreases-loop-i l = l.end - l.i
+abbrev pub decreases-loop-number : goal.decreases-loop-number
+decreases-loop-number l = length l.left

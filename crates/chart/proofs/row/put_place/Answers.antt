@@ -1,28 +1,34 @@
 -- `put_place`: the name, the field and, unless the leaf is alone, the component.
 use native.Mathlib.Omega.{arith}
-use Rattle.text.proofs.Puts.{puts_none, puts-both, puts-length}
-use Rattle.chart.proofs.Lines.{place-written, place-length, among_length}
+use Rattle.text.proofs.Writes.{writes-both, writes-length}
+use Rattle.chart.proofs.CodeByCode.{writes_none}
+use Rattle.chart.proofs.Lines.{place-written, among_length}
 use Rattle.chart.proofs.row.put_place.Goals as goal
 
-pub put-a-requires : goal.put-a-requires
-put-a-requires c = omega (arith, place-length c.args.segment.now c.args.alone c.args.table.now c.args.row)
+pub returns-then-r : goal.returns-then-r
+returns-then-r c = rw (place-written c.args.r.segment.now c.args.r.alone c.args.r.table.now c.args.r.start, c.if-r.true)
+    (writes-both c.put.ensures (writes-both c.put-2.ensures (writes-both c.put_decimal.ensures
+    (writes_none _ (omega (arith, c.put_decimal.ensures.puts.ends, c.put_decimal.ensures.puts.room, writes-length c.put_decimal.ensures))))))
 
-pub put-b-requires : goal.put-b-requires
-put-b-requires c = omega (arith, place-length c.args.segment.now c.args.alone c.args.table.now c.args.row)
+pub put-requires-3 : goal.put-requires-3
+put-requires-3 c = omega (
+  arith,
+  among_length c.args.r.segment.now c.args.r.alone c.args.r.table.now c.args.r.start c.if-r.false,
+  writes-length c.put.ensures,
+  writes-length c.put-2.ensures,
+  writes-length c.put_decimal.ensures,
+)
 
-pub put_decimal-c-requires : goal.put_decimal-c-requires
-put_decimal-c-requires c = omega (arith, place-length c.args.segment.now c.args.alone c.args.table.now c.args.row)
-
-pub returns-then-alone : goal.returns-then-alone
-returns-then-alone c = rw (place-written c.args.segment.now c.args.alone c.args.table.now c.args.row, c.if-alone.true)
-    (puts-both c.put-a.ensures (puts-both c.put-b.ensures (puts-both c.put_decimal-c.ensures (puts_none _ _ (omega (arith, c.put_decimal-c.ensures.ends, c.put_decimal-c.ensures.room, puts-length c.put_decimal-c.ensures))))))
-
-pub put-d-requires : goal.put-d-requires
-put-d-requires c = omega (arith, among_length c.args.segment.now c.args.alone c.args.table.now c.args.row c.if-alone.false)
-
-pub put_decimal-requires : goal.put_decimal-requires
-put_decimal-requires c = omega (arith, among_length c.args.segment.now c.args.alone c.args.table.now c.args.row c.if-alone.false)
+pub put_decimal-requires-2 : goal.put_decimal-requires-2
+put_decimal-requires-2 c = omega (
+  arith,
+  among_length c.args.r.segment.now c.args.r.alone c.args.r.table.now c.args.r.start c.if-r.false,
+  writes-length c.put.ensures,
+  writes-length c.put-2.ensures,
+  writes-length c.put_decimal.ensures,
+  writes-length c.put-3.ensures,
+)
 
 pub returns : goal.returns
-returns c = rw (place-written c.args.segment.now c.args.alone c.args.table.now c.args.row, c.if-alone.false)
-    (puts-both c.put-a.ensures (puts-both c.put-b.ensures (puts-both c.put_decimal-c.ensures (puts-both c.put-d.ensures c.put_decimal.ensures))))
+returns c = rw (place-written c.args.r.segment.now c.args.r.alone c.args.r.table.now c.args.r.start, c.if-r.false)
+    (writes-both c.put.ensures (writes-both c.put-2.ensures (writes-both c.put_decimal.ensures (writes-both c.put-3.ensures c.put_decimal-2.ensures))))

@@ -9,8 +9,8 @@ use Rattle.text.specs.Bytes.{Text, within}
 use Rattle.parts.specs.Split.{split}
 use Rattle.parts.proofs.Reach.{end-inside, split-on}
 use Rattle.codes.specs.Inner.{leaves_at}
-use Rattle.leaves.proofs.LeafRule.{bytes_none, bytes_some}
-use Rattle.fields.proofs.Repeats.{Repeats, in_repetition, made_there, none_yet, one_before, repeats-none, repeats-first, repeats-kept, repeats_blank, repeats-read, repeats-last, repeats_over, split-whole}
+use Rattle.leaves.proofs.LeafRule.{bytes_none}
+use Rattle.fields.proofs.Repeats.{Repeats, in_repetition, made_there, none_yet, one_before, repeats-none, repeats-kept, repeats_blank, repeats-read, repeats-last, repeats_over, split-whole}
 use Rattle.fields.proofs.field.read_field.Goals as goal
 use Rattle.fields.proofs.field.read_field.Goals.{then-is_none+then-r as read, then-is_none+else-r as blank, else-is_none as kept}
 
@@ -19,9 +19,6 @@ returns-then-is_empty c = repeats-none _ _ _ _ (bytes_none _ _ c.is_empty.ensure
 
 pub slice_bounds-read_repetition-end : goal.slice_bounds-read_repetition-end
 slice_bounds-read_repetition-end c = end-inside c.args.q.repetition c.args.s.now c.loop-number.start c.piece_end-end.result c.loop-number.invariant.start c.piece_end-end.ensures
-
-pub loop-number-init : goal.loop-number-init
-loop-number-init c = record { start = omega arith; repeats = repeats-first _ _ _ (bytes_some _ _ c.is_empty.ensures c.if-is_empty.false) }
 
 pub returns-then-s-end : goal.returns-then-s-end
 returns-then-s-end c =

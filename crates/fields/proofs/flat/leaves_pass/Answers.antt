@@ -7,14 +7,11 @@ use Rattle.leaves.proofs.Breaks.{told_none, none_yet}
 use Rattle.text.specs.Bytes.{within}
 use Rattle.text.proofs.Tests.{both}
 use Rattle.cursor.proofs.Moving.{cursor-inside}
-use Rattle.leaves.proofs.LeafByLeaf.{reading-first, reading-number, reading-reason, reading-missing, reading-none}
+use Rattle.leaves.proofs.LeafByLeaf.{reading-number, reading-reason, reading-missing, reading-none}
 use Rattle.fields.proofs.FlatField.{flat_measured, flat_on, not_broken, not-none}
 use Rattle.std.specs.Prelude.{Ok}
 use Rattle.fields.proofs.flat.leaves_pass.Goals as goal
 use Rattle.fields.proofs.flat.leaves_pass.Goals.{else-not-takes_any-via-then-not-takes_any+else-is_err as judged, else-not-takes_any-via-else-not-takes_any as any_text}
-
-pub loop-at-init : goal.loop-at-init
-loop-at-init c = reading-first c.requires.0 c.first_piece-cursor.ensures
 
 pub advance-cursor-requires : goal.advance-cursor-requires
 advance-cursor-requires c = (c.loop-at.invariant.piece, reading-number c.loop-at.invariant c.loop-at-test.true)

@@ -1,5 +1,5 @@
 -- `file_accepted`: NoGroup, NoSlot, or the slip in its slot.
-use mathlib.Core.Path.{refl, sym, ◌∙◌}
+use mathlib.Core.Path.{sym, ◌∙◌}
 use native.Mathlib.Omega.{arith}
 use Rattle.std.proofs.lemmas.Result.{err_from_is_err_and}
 use Rattle.slip.proofs.Answers.{own-zero, own-missing, own-slot, own-slip}
