@@ -11,7 +11,7 @@ use Rattle.line.proofs.fault_line.Goals as goal
 pub returns : goal.returns
 returns c =
     let h : Writes _ (as_line (fault_line (place_of c.args.f.place) (number_of_reason c.args.f.reason))) c.put-2.new.self =
-    rw (c.from.ensures, c.condition.ensures, c.from-2.ensures, fault-written (place_of c.args.f.place) (number_of_reason c.args.f.reason)) at
+    rw (c.from.ensures, c.condition.ensures, c.from-2.ensures, c.number.ensures, fault-written (place_of c.args.f.place) (number_of_reason c.args.f.reason)) at
     (writes-both (writes-both (writes-both (writes-both c.put.ensures c.put_place.ensures.writes) c.put_number.ensures.writes)
     c.put_number-2.ensures.writes) c.put-2.ensures) in
     search rules
