@@ -67,7 +67,7 @@ fn part_of<'a>(book: &'a [u8], v: Result<Span, Refusal>) -> &'a [u8]
     }
 }
 
-// A reading's sort beside the very part of the book: of a refusal, no bytes at the book's start.
+// A reading's sort beside the very part of the book: of a refusal, no bytes at the book's start. The form is a look-up's (docs/DESIGN.md).
 #[derive(Clone, Copy)]
 pub struct SlipValue<'a> {
     pub sort: Result<Span, Refusal>,

@@ -37,7 +37,7 @@ fn text_of<'a>(m: &'a [u8], f: Result<Found, Refusal>) -> &'a [u8]
     }
 }
 
-// A look-up's sort beside the very part of the message: of no text, no bytes at the message's start.
+// A look-up's sort beside the very part of the message: of no text, no bytes at the message's start. This form is one that 01 names (docs/DESIGN.md).
 #[derive(Clone, Copy)]
 pub struct LookedUp<'a> {
     pub sort: Result<Found, Refusal>,

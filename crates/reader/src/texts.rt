@@ -18,7 +18,7 @@ fn segment_text<'a>(m: &'a [u8], s: Option<Span>) -> &'a [u8]
     ensures { result.now ≡ segment_text m.now s }
 {
     match s {
-        None => &m[0..0],
+        None => &[],
         Some(s) => &m[s.start..s.end],
     }
 }

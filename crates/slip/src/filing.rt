@@ -33,7 +33,7 @@ fn fill_group(m: &[u8], order: Span, slip: &mut [u8])
     fill(slip, marks_of(m), values);
 }
 
-// Files a group of an accepted message. The slip is written aside and stands whole before a byte of the book is written.
+// Files a group of an accepted message. The slip is written aside, in the scratch slot that 01 names, and stands whole before a byte of the book is written.
 fn file_accepted(m: &[u8], group: u64, slot: usize, book: &mut [u8]) -> Result<(), Refusal>
     requires { (framed m.now ≡ true) × (verdict profile01 m.now ≡ accepted) }
     ensures { FilesOwn m.now group slot book.old result book.new }
