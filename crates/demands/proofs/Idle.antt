@@ -79,7 +79,7 @@ module _ (m : Text) (g : ℕ) (judged : judge profile01 m ≡ given accepted) (g
   files-slip : (k : ℕ) (before after : Text) (r : Result Unit Refusal) → no_slot before k ≡ false → Files profile01 m g k before r after
       → (r ≡ Ok tt) × (slot after k ≡ slip_text m g)
   files-slip k before after r room f =
-      let filed = files-own m g k before None (sym judged) refl (Ok tt) _ (own-filed k before room) in
+      let filed = files-own m g k before (Ok None) (sym judged) refl (Ok tt) _ (own-filed k before room) in
       let e = (file_unique profile01 m g k before r (Ok tt) after _ f filed).0 in
       (e, filed-there m g k before after (rw e at f))
 

@@ -24,6 +24,7 @@ pub fn next_listed(m: &[u8], at: usize) -> Option<Listed>
     requires { (at ≤ length m.now) × Opens m.now at }
     ensures { (t : List ℕ) → Sound t → NextIs (table_of t) m.now at result }
 {
+    // Kept: over `parts::Ended` the place of each segment would still be counted by hand, so that is no plainer.
     let mut start = at;
     let mut end = far_end(m, at, b'\r');
     while end < m.len() {
@@ -53,6 +54,7 @@ pub fn occurrence_at(m: &[u8], start: usize) -> u64
     requires { (start + 3 ≤ length m.now) × Opens m.now start }
     ensures { result ≡ count_before m.now start (name_at m.now start) + 1 }
 {
+    // Kept: tried as `split(..).filter(..).count()`, but the proof that this counts the segments did not close.
     let mut occurrence = 1;
     let mut at = 0;
     while at < start {

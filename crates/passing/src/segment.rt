@@ -24,6 +24,7 @@ fn all_optional(table: &[u16], k: u16) -> bool
 {
     let rows = rows_under(table, k);
     let last = rows.end;
+    // Kept: a field has as many rows as the table says, so no chunks of one size; an iterator of fields would be no plainer.
     let mut at = rows.start;
     while columns::ROW <= last - at {
         if table[at + columns::USAGE] != numbers::OPTIONAL {
@@ -48,6 +49,7 @@ pub fn segment_passes(s: &[u8], q: Marks, table: &[u16], k: u16) -> bool
     let last = rows.end;
     let before = fields_before(k);
     let mut cursor = first_piece(fields, q.field, false);
+    // Kept: as above.
     let mut at = rows.start;
     while columns::ROW <= last - at {
         let end = next_field(table, at);

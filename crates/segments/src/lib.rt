@@ -148,6 +148,7 @@ pub fn read_segment(s: &[u8], q: Marks, table: &[u16], k: u16) -> Result<(), Fin
     let fields = &s[fields_start(s, k)..];
     let before = fields_before(k);
     let mut cursor = first_piece(fields, q.field, true);
+    // Kept: a field has as many rows as the table says, so no chunks of one size; an iterator of fields would be no plainer.
     let mut at = rows.start;
     while columns::ROW <= last - at {
         let end = next_field(table, at);

@@ -1,6 +1,7 @@
 // The readers of a message's listed segments. Group, observation and note readers call one another, and with each call fewer segments
 // remain. They carry no counts and answer only where they stopped, so that a call costs little: the verdict is made of that once, at the end.
 // Inner: the callers hold the table's rule, where the segment stands and that it may stand there.
+// Kept: `order`, `group`, `observation` and `note` stay four readers that call one another, since 01 names that form (docs/DESIGN.md).
 #![tactic(auto)]
 
 ghost use Rattle.std.specs.Prelude.{◌≡◌, ◌⊎◌};
