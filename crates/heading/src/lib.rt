@@ -38,10 +38,7 @@ fn or_empty<'a>(q: Marks, limit: usize, t: &'a [u8]) -> &'a [u8]
     ensures { result.now ≡ or_empty q limit (first_leaf q t.now) }
 {
     let leaf = first_leaf(t, q);
-    if is_unfit(q, limit, leaf) {
-        return &leaf[0..0];
-    }
-    leaf
+    if is_unfit(q, limit, leaf) { b"" } else { leaf }
 }
 
 // A component after its separator; nothing where neither it nor a later one is filled.

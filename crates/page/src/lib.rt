@@ -28,6 +28,7 @@ fn put_field(w: &mut Writer, segment: &[u8], table: &[u16], first: usize, next: 
         (asked_lines a.entry.name.now a.entry.field a.entry.component (field_lists segment.now (rule_at table.now first next)))
         w.new }
 {
+    // by places, not by slices of a row: `put_row` reads the row's list in the same table, before the rows
     let alone = next - first < 2 * columns::ROW;
     let mut start = first;
     while columns::ROW <= next - start {
@@ -57,6 +58,7 @@ fn put_segment(w: &mut Writer, segment: &[u8], table: &[u16], a: Asked)
         return;
     }
     let rows = rows_under(table, k);
+    // a `while`: how far a field goes its first row says, so no iterator of std steps so
     let mut first = rows.start;
     let end = rows.end;
     while columns::ROW <= end - first {
@@ -72,6 +74,7 @@ fn put_segments(w: &mut Writer, table: &[u16], a: Asked)
     requires room { w.old.at + length (asked_lines a.name.now a.field a.component (charted profile01)) ≤ length w.old.out.now }
     ensures { Writes w.old (asked_lines a.entry.name.now a.entry.field a.entry.component (charted profile01)) w.new }
 {
+    // no loop over the names: `segment_left_out` needs each on a line of its own, and the proof names what stands after each
     put_segment(w, b"MSH", table, a);
     put_segment(w, b"PID", table, a);
     put_segment(w, b"NK1", table, a);
