@@ -1,5 +1,5 @@
-// The calls that only read: each reads its words, the strings into memory of its own, asks its entry and tells the answer. Words that are not
-// those of the call have none.
+// The calls that only read: each reads its words, the strings into memory of its own, asks its entry and tells the answer. There is none where
+// the words are not those of the call.
 #![tactic(auto)]
 
 use handed::{ask_look, ask_read};

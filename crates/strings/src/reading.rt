@@ -51,6 +51,7 @@ fn first_piece(word: &[u8]) -> Option<(Piece, &[u8])>
 pub fn read_string(word: &[u8], into: &mut [u8]) -> Option<usize>
     ensures { IfSome result (λ n. n ≤ length into.new) }
 {
+    // Kept: the memory is filled by bytes and by runs of any length, so an iterator over it would be no plainer.
     let mut count = 0;
     // the byte that a run may follow: a run follows no other
     let mut before = None;

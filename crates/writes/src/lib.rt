@@ -1,5 +1,5 @@
 // The calls that write to lent memory: each reads its words, the strings into memory of its own, asks its entry, and tells the answer with
-// the buffer or the book as it is then. Words that are not those of the call have none.
+// the buffer or the book as it is then. There is none where the words are not those of the call.
 #![tactic(auto)]
 
 use strings::{memory, next_string};
