@@ -60,18 +60,3 @@ impl TryFrom<u8> for Reason {
         }
     }
 }
-
-// The old constants, until nothing uses them any more.
-pub const NOTHING_BROKEN: u8 = 0;
-
-pub const MISSING: u8 = 3;
-
-pub const TOO_MANY_REPETITIONS: u8 = 4;
-
-pub const TOO_LONG: u8 = 5;
-
-pub const BAD_ESCAPE: u8 = 6;
-
-pub const NOT_OF_ITS_TYPE: u8 = 7;
-
-pub const NO_SUCH_DAY: u8 = 13;

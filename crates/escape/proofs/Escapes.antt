@@ -5,7 +5,7 @@ use Prim.Native.Nat.{ℕ, zero, suc, ◌+◌, ◌*◌, ◌-◌, ◌≤◌, ◌<�
 use native.Mathlib.Omega.{arith}
 use mathlib.Core.Bool.{Bool, true, false, not, ◌&&◌, ◌||◌}
 use mathlib.Core.List.{[], ◌∷◌, ◌++◌, append-nil}
-use lib.ListN.{length, length-append, get_or, take, drop, set, length-map}
+use lib.ListN.{length, length-append, get_or, take, drop, length-map}
 use lib.Seq.{append_snoc}
 use lib.Dec.{eqb, ltb}
 use borrow.Author.Tests.{eq-eqb, ne_eqb, lt-ltb, le-ltb}
@@ -18,12 +18,15 @@ use Rattle.escape.specs.Step.{is_other, is_letter, meant, Reads}
 use Rattle.escape.specs.Promise.{Resolves}
 use Rattle.escape.specs.Length.{Measures}
 use Rattle.text.specs.Puts.{Puts}
+use Rattle.text.specs.Writes.{Writes}
+use Rattle.text.specs.declared.writer.Writer.{Writer}
 use Rattle.text.specs.declared.marks.Marks.{Marks}
 use Rattle.text.specs.declared.refusal.Refusal.{Refusal}
 use Rattle.text.specs.declared.refusal.Refusal.TheVariants.{NoRoom, BadEscape}
 use Rattle.text.proofs.Tests.{not-true, both, and-false, picks}
 use Rattle.text.proofs.Lists.{or-false, and-true, part-rest}
-use Rattle.text.proofs.Puts.{puts-length, puts-more, puts-front-room, puts-front-ends, puts-front}
+use Rattle.text.proofs.Writes.{writes-both, writes-length}
+use Rattle.text.proofs.Puts.{puts_none, puts-front-room, puts-front-ends, puts-front}
 
 or-and : (a b x : Bool) → (a && x) || (b && x) ≡ (a || b) && x
 or-and true b true = refl
@@ -229,32 +232,37 @@ resolved-empty q [] e = resolved-none q
 resolved-empty q (b ∷ rest) e = not-true (sym e)
 
 -- the text put so far, and what the rest resolves to, are the resolved text
-pub record Filled (q : Marks) (t before : Text) (at : ℕ) (buffer : Text) (to : ℕ) (rest : Text) : Type 0 where
+pub record Filled (q : Marks) (t : Text) (before w : Writer) (rest : Text) : Type 0 where
   pub done : Text
-  pub puts : Puts before at done buffer to
-  pub room : at + length (resolved q t) ≤ length before
+  pub writes : Writes before done w
+  pub room : before.at + length (resolved q t) ≤ length before.out.now
   pub good : bad_escape q rest ≡ false
   pub told : done ++ resolved q rest ≡ resolved q t
 
-module _ (q : Marks) (t before : Text) (at : ℕ) (buffer : Text) (to : ℕ) (rest : Text) (f : Filled q t before at buffer to rest) where
-  pub filled-room : (b : ℕ) (after : Text) → Reads q rest b after → to < length buffer
-  filled-room b after r =
-      omega (arith, ap length r.reads, f.room, f.puts.ends, puts-length f.puts, simp length-append at (ap length f.told))
+module _ (q : Marks) (t : Text) (before : Writer) where
+  pub filled-first : bad_escape q t ≡ false → before.at + length (resolved q t) ≤ length before.out.now → Filled q t before before t
+  filled-first g h =
+      record { done = []; writes = record { same = refl; puts = puts_none before.out.now before.at (omega arith) }; room = h; good = g; told = refl }
 
-  pub filled_more : (b : ℕ) (after : Text) → Reads q rest b after → Filled q t before at (set buffer to b) (to + 1) after
-  filled_more b after r =
-      record {
-        done = f.done ++ b ∷ [];
-        puts = puts-more to b refl (omega (arith, filled-room b after r, puts-length f.puts)) f.puts;
-        room = f.room;
-        good = sym r.bad ∙ f.good;
-        told = append_snoc f.done b (resolved q after) ∙ (rw r.reads at f.told);
-      }
+  module _ (w : Writer) (rest : Text) (f : Filled q t before w rest) where
+    pub filled-room : (b : ℕ) (after : Text) → Reads q rest b after → w.at + 1 ≤ length w.out.now
+    filled-room b after r =
+        omega (arith, ap length r.reads, f.room, f.writes.puts.ends, writes-length f.writes, simp length-append at (ap length f.told))
 
-  pub filled-all : bad_escape q rest ≡ not (empty rest) → Puts before at (resolved q t) buffer to
-  filled-all e =
-      let told : f.done ≡ resolved q t = sym (append-nil f.done) ∙ (rw (resolved-empty q rest (sym e ∙ f.good)) at f.told) in
-      subst (λ (u : Text). Puts before at u buffer to) told f.puts
+    pub filled_more : (b : ℕ) (after : Text) (v : Writer) → Reads q rest b after → Writes w (b ∷ []) v → Filled q t before v after
+    filled_more b after v r p =
+        record {
+          done = f.done ++ b ∷ [];
+          writes = writes-both f.writes p;
+          room = f.room;
+          good = sym r.bad ∙ f.good;
+          told = append_snoc f.done b (resolved q after) ∙ (rw r.reads at f.told);
+        }
+
+    pub filled-all : bad_escape q rest ≡ not (empty rest) → Writes before (resolved q t) w
+    filled-all e =
+        let told : f.done ≡ resolved q t = sym (append-nil f.done) ∙ (rw (resolved-empty q rest (sym e ∙ f.good)) at f.told) in
+        subst (λ (u : Text). Writes before u w) told f.writes
 
 -- each stop is at a byte of its own: a text resolved is no longer; and from a stop to the next are three bytes at most
 module _ (q : Marks) where

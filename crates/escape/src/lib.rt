@@ -1,15 +1,15 @@
 // Escapes: the text that a person reads, and its length. A text with a bad escape has neither.
 #![tactic(auto)]
 
-ghost use Rattle.std.specs.Prelude.{◌≡◌, false, ◌+◌, ◌≤◌, ◌<◌, length, get_or, drop};
+ghost use Rattle.std.specs.Prelude.{◌≡◌, false, ◌+◌, ◌≤◌, length};
 ghost use Rattle.text.specs.Bytes.{pick};
 ghost use Rattle.escape.specs.Escape.{bad_escape, resolved};
 ghost use Rattle.escape.specs.Length.{Measures};
 ghost use Rattle.escape.specs.Promise.{Resolves};
-ghost use Rattle.text.specs.Puts.{Puts};
+ghost use Rattle.text.specs.Writes.{Writes};
 ghost use Rattle.escape.specs.Step.{is_letter, ReadsFirst};
 
-use text::{Marks, Refusal, every, usual_marks};
+use text::{Marks, Refusal, Writer, every, usual_marks};
 
 // The separator that a letter means; none where it is the letter of no escape.
 fn meant(q: Marks, letter: u8) -> Option<u8>
@@ -59,19 +59,16 @@ pub fn resolved_len(q: Marks, t: &[u8]) -> Option<usize>
     counted(q, t)
 }
 
-// Puts the resolved text at a place, and answers where it ends. Inner: the callers hold that there is room and no bad escape.
-pub fn put_resolved(out: &mut [u8], at: usize, q: Marks, t: &[u8]) -> usize
-    requires { (bad_escape q t.now ≡ false) × (at + length (resolved q t.now) ≤ length out.old) }
-    ensures { Puts out.old at (resolved q t.now) out.new result }
+// Puts the resolved text, and goes on behind it. Inner: the callers hold that there is room and no bad escape.
+pub fn put_resolved(w: &mut Writer, q: Marks, t: &[u8])
+    requires { (bad_escape q t.now ≡ false) × (w.old.at + length (resolved q t.now) ≤ length w.old.out.now) }
+    ensures { Writes w.old (resolved q t.now) w.new }
 {
-    let mut to = at;
     let mut rest = t;
     while let Some((b, after)) = first_read(q, rest) {
-        out[to] = b;
-        to += 1;
+        w.put(&[b]);
         rest = after;
     }
-    to
 }
 
 // Resolves a text with the usual separators into the buffer. Both tests are done before a byte is written.
@@ -83,5 +80,7 @@ pub fn resolve(text: &[u8], buffer: &mut [u8]) -> Result<usize, Refusal>
     if buffer.len() < n {
         return Err(Refusal::NoRoom);
     }
-    Ok(put_resolved(buffer, 0, q, text))
+    let mut w = Writer { out: buffer, at: 0 };
+    put_resolved(&mut w, q, text);
+    Ok(w.at)
 }

@@ -1,4 +1,5 @@
 -- `resolve`: a bad escape, no room, or the resolved text.
+use Rattle.std.proofs.Common.{rules}
 use Rattle.std.proofs.lemmas.Result.{err_from_is_err_and}
 use Rattle.escape.proofs.Escapes.{resolves-bad, resolves_full, resolves-given}
 use Rattle.escape.proofs.resolve.Goals as goal
@@ -11,4 +12,6 @@ pub returns-then-buffer-n : goal.returns-then-buffer-n
 returns-then-buffer-n c = resolves_full _ _ _ c.usual_marks-q.ensures _ c.resolved_len.ensures _ c.in_ok-n.ensures.value c.if-buffer-n.true
 
 pub returns : goal.returns
-returns c = resolves-given _ _ _ c.usual_marks-q.ensures _ c.resolved_len.ensures _ _ _ c.in_ok-n.ensures.value c.put_resolved.ensures
+returns c =
+    let h = resolves-given _ _ _ c.usual_marks-q.ensures _ c.resolved_len.ensures _ _ _ c.in_ok-n.ensures.value c.put_resolved.ensures.puts in
+    search (rules, h)

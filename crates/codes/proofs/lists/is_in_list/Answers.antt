@@ -3,11 +3,5 @@ use mathlib.Core.Path.{◌∙◌}
 use Rattle.codes.proofs.ListNumbers.{in_list}
 use Rattle.codes.proofs.lists.is_in_list.Goals as goal
 
-pub returns-then-n-eq-ANY : goal.returns-then-n-eq-ANY
-returns-then-n-eq-ANY c = rw c.if-n-eq-ANY.true
-
-pub is_one_of-requires : goal.is_one_of-requires
-is_one_of-requires c = (c.list_codes-list.ensures.inside, c.list_codes-list.ensures.whole)
-
 pub returns : goal.returns
 returns c = c.is_one_of.ensures ∙ in_list c.args.lists.now c.args.n _ c.args.s.now c.list_codes-list.ensures c.if-n-eq-ANY.false
