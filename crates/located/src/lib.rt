@@ -67,7 +67,8 @@ fn first_leaf(x: &[u8], q: Marks) -> usize
     near_end(&x[0..b], 0, q.subcomponent)
 }
 
-// The rows of the type that the field with that number names.
+// The rows of the type that the field with that number names. By itself, so that `leaf_rows` is short and costs most fields no call.
+#[inline(never)]
 fn named_rows(s: &[u8], q: Marks, table: &[u16], k: u16, number: u64) -> Span
     requires sound { Sound table.now × HasNumber s.now k }
     requires no_lower { first_field k ≤ number }
@@ -79,6 +80,7 @@ fn named_rows(s: &[u8], q: Marks, table: &[u16], k: u16, number: u64) -> Span
 }
 
 // The rows of the leaves that a field lists: its own, from `at` up to `end`, or those of the type that another one names.
+#[inline]
 pub fn leaf_rows(s: &[u8], q: Marks, table: &[u16], k: u16, at: usize, end: usize) -> Span
     requires sound { Sound table.now × HasNumber s.now k }
     requires field { IsField table.now k at end }

@@ -3,8 +3,9 @@
 
 pub mod limits;
 
-ghost use Rattle.std.specs.Prelude.{◌≡◌, ◌≤◌, length};
+ghost use Rattle.std.specs.Prelude.{◌≡◌, true, false, ◌≤◌, length};
 ghost use Rattle.text.specs.Puts.{Puts};
+ghost use Rattle.types.specs.Types.{is_stamp, is_reply_number};
 ghost use Rattle.profile.specs.Profile.{profile01};
 ghost use Rattle.reader.specs.Fault.{verdict};
 ghost use Rattle.reader.specs.Told.{verdict_told};
@@ -46,8 +47,30 @@ fn put_reply(out: &mut [u8], h: Header, fault: Option<Fault>, stamp: &[u8], numb
     w.at
 }
 
-// The reply to a message whose frame is good. A buffer that has room for each reply is written at once. For a shorter one the reply is written aside, where each
-// has room; then the buffer's room is tested, and only then is a byte of the buffer written.
+// The reply to such a message into a buffer that may be too short: it is written aside, where each reply has room; then the buffer's room is tested, and only then is a
+// byte of the buffer written. By itself, so that whoever lends enough is spared the clearing of those bytes.
+#[inline(never)]
+fn reply_aside(
+    h: Header,
+    fault: Option<Fault>,
+    stamp: &[u8],
+    number: &[u8],
+    buffer: &mut [u8],
+) -> Result<usize, Refusal>
+    requires opened { Opened h.message.now h.third.now h.tenth.now }
+    requires verdict_told { verdict_told fault ≡ verdict profile01 h.message.now }
+    requires good { (is_stamp stamp.now ≡ true) × ((is_reply_number number.now ≡ true) × (no_control h.message.now ≡ false)) }
+    ensures { Acknowledges h.entry.message.now stamp.now number.now buffer.old result buffer.new }
+{
+    let mut out = [0u8; limits::LONGEST_REPLY];
+    let n = put_reply(&mut out, h, fault, stamp, number);
+    if buffer.len() < n {
+        return Err(Refusal::NoRoom);
+    }
+    Ok(put(buffer, 0, &out[..n]))
+}
+
+// The reply to a message whose frame is good. A buffer that has room for each reply is written at once.
 fn acknowledge(
     m: &[u8],
     fault: Option<Fault>,
@@ -78,12 +101,7 @@ fn acknowledge(
     if limits::LONGEST_REPLY <= buffer.len() {
         return Ok(put_reply(buffer, h, fault, stamp, number));
     }
-    let mut out = [0u8; limits::LONGEST_REPLY];
-    let n = put_reply(&mut out, h, fault, stamp, number);
-    if buffer.len() < n {
-        return Err(Refusal::NoRoom);
-    }
-    Ok(put(buffer, 0, &out[..n]))
+    reply_aside(h, fault, stamp, number, buffer)
 }
 
 // Writes the reply to a message into the buffer, with that stamp and that reply number.

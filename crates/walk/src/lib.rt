@@ -35,14 +35,10 @@ pub struct Halt {
 }
 
 impl Halt {
-    fn at(why: Why, here: Listed) -> Halt
-        ensures { result ≡ record { why = why; start = here.start; end = here.end } }
+    fn at(why: Why, start: usize, end: usize) -> Halt
+        ensures { result ≡ record { why = why; start = start; end = end } }
     {
-        Halt {
-            why,
-            start: here.start,
-            end: here.end,
-        }
+        Halt { why, start, end }
     }
 }
 
@@ -54,109 +50,121 @@ fn may_be_last(number: u16) -> bool
 }
 
 // Reads the segment that stands there and finds the next one: None where the message ends after it and may.
-fn read_on(m: &[u8], table: &[u16], here: Listed) -> Result<Option<Listed>, Halt>
-    requires { Sound table.now × Here m.now here.start here.end here.number }
-    ensures { OnwardIs (table_of table.now) m.now here.start here.end result }
+fn read_on(
+    m: &[u8],
+    table: &[u16],
+    start: usize,
+    end: usize,
+    number: u16,
+) -> Result<Option<Listed>, Halt>
+    requires { Sound table.now × Here m.now start end number }
+    ensures { OnwardIs (table_of table.now) m.now start end result }
 {
-    if is_broken(&m[here.start..here.end], marks_of(m), table, here.number) {
-        return Err(Halt::at(Why::FieldBroken, here));
+    if is_broken(&m[start..end], marks_of(m), table, number) {
+        return Err(Halt::at(Why::FieldBroken, start, end));
     }
-    let next = next_listed(m, here.end + 1);
-    if next.is_none() && !may_be_last(here.number) {
-        return Err(Halt::at(Why::MayNotEnd, here));
+    let next = next_listed(m, end + 1);
+    if next.is_none() && !may_be_last(number) {
+        return Err(Halt::at(Why::MayNotEnd, start, end));
     }
     Ok(next)
 }
 
 // An ORC, which a group follows.
 #[cycle(in_group)]
-fn order(m: &[u8], table: &[u16], here: Listed) -> Result<(), Halt>
-    requires { Sound table.now × (Here m.now here.start here.end here.number × (here.number ≡ ORC)) }
-    ensures { Walks (table_of table.now) m.now here.start here.end result }
+fn order(m: &[u8], table: &[u16], start: usize, end: usize) -> Result<(), Halt>
+    requires { Sound table.now × Here m.now start end ORC }
+    ensures { Walks (table_of table.now) m.now start end result }
 {
-    let Some(next) = read_on(m, table, here)? else {
+    let Some(next) = read_on(m, table, start, end, numbers::ORC)? else {
         return Ok(());
     };
     match next.number {
-        numbers::OBR => group(m, table, next),
-        _ => Err(Halt::at(Why::OutOfPlace, next)),
+        numbers::OBR => group(m, table, next.start, next.end),
+        _ => Err(Halt::at(Why::OutOfPlace, next.start, next.end)),
     }
 }
 
 // An OBR: after a group a group may come.
 #[cycle(in_group)]
-fn group(m: &[u8], table: &[u16], here: Listed) -> Result<(), Halt>
-    requires { Sound table.now × (Here m.now here.start here.end here.number × (here.number ≡ OBR)) }
-    ensures { Walks (table_of table.now) m.now here.start here.end result }
+fn group(m: &[u8], table: &[u16], start: usize, end: usize) -> Result<(), Halt>
+    requires { Sound table.now × Here m.now start end OBR }
+    ensures { Walks (table_of table.now) m.now start end result }
 {
-    let Some(next) = read_on(m, table, here)? else {
+    let Some(next) = read_on(m, table, start, end, numbers::OBR)? else {
         return Ok(());
     };
-    behind_group(m, table, next)
+    behind_group(m, table, next.start, next.end, next.number)
 }
 
 // An OBX: after an observation its notes may come.
 #[cycle(in_group)]
-fn observation(m: &[u8], table: &[u16], here: Listed) -> Result<(), Halt>
-    requires { Sound table.now × (Here m.now here.start here.end here.number × (here.number ≡ OBX)) }
-    ensures { Walks (table_of table.now) m.now here.start here.end result }
+fn observation(m: &[u8], table: &[u16], start: usize, end: usize) -> Result<(), Halt>
+    requires { Sound table.now × Here m.now start end OBX }
+    ensures { Walks (table_of table.now) m.now start end result }
 {
-    let Some(next) = read_on(m, table, here)? else {
+    let Some(next) = read_on(m, table, start, end, numbers::OBX)? else {
         return Ok(());
     };
-    behind_group(m, table, next)
+    behind_group(m, table, next.start, next.end, next.number)
 }
 
 // An NTE: after notes another observation may come.
 #[cycle(in_group)]
-fn note(m: &[u8], table: &[u16], here: Listed) -> Result<(), Halt>
-    requires { Sound table.now × (Here m.now here.start here.end here.number × (here.number ≡ NTE)) }
-    ensures { Walks (table_of table.now) m.now here.start here.end result }
+fn note(m: &[u8], table: &[u16], start: usize, end: usize) -> Result<(), Halt>
+    requires { Sound table.now × Here m.now start end NTE }
+    ensures { Walks (table_of table.now) m.now start end result }
 {
-    let Some(next) = read_on(m, table, here)? else {
+    let Some(next) = read_on(m, table, start, end, numbers::NTE)? else {
         return Ok(());
     };
-    behind_group(m, table, next)
+    behind_group(m, table, next.start, next.end, next.number)
 }
 
 // The segment after an OBR, an OBX or an NTE: the same may follow each of them.
 #[cycle(in_group)]
-fn behind_group(m: &[u8], table: &[u16], here: Listed) -> Result<(), Halt>
-    requires { Sound table.now × Here m.now here.start here.end here.number }
-    ensures { WalksIf (behind_group here.number) (table_of table.now) m.now here.start here.end result }
+fn behind_group(m: &[u8], table: &[u16], start: usize, end: usize, number: u16) -> Result<(), Halt>
+    requires { Sound table.now × Here m.now start end number }
+    ensures { WalksIf (behind_group number) (table_of table.now) m.now start end result }
 {
-    match here.number {
-        numbers::ORC => order(m, table, here),
-        numbers::OBR => group(m, table, here),
-        numbers::OBX => observation(m, table, here),
-        numbers::NTE => note(m, table, here),
-        _ => Err(Halt::at(Why::OutOfPlace, here)),
+    match number {
+        numbers::ORC => order(m, table, start, end),
+        numbers::OBR => group(m, table, start, end),
+        numbers::OBX => observation(m, table, start, end),
+        numbers::NTE => note(m, table, start, end),
+        _ => Err(Halt::at(Why::OutOfPlace, start, end)),
     }
 }
 
 // The PID or an NK1: the same may follow each of them.
 #[cycle(before_group)]
-fn patient(m: &[u8], table: &[u16], here: Listed) -> Result<(), Halt>
-    requires { Sound table.now × (Here m.now here.start here.end here.number × ((here.number ≡ PID) ⊎ (here.number ≡ NK1))) }
-    ensures { Walks (table_of table.now) m.now here.start here.end result }
+fn patient(m: &[u8], table: &[u16], start: usize, end: usize, number: u16) -> Result<(), Halt>
+    requires { Sound table.now × (Here m.now start end number × ((number ≡ PID) ⊎ (number ≡ NK1))) }
+    ensures { Walks (table_of table.now) m.now start end result }
 {
-    let Some(next) = read_on(m, table, here)? else {
+    let Some(next) = read_on(m, table, start, end, number)? else {
         return Ok(());
     };
-    behind_patient(m, table, next)
+    behind_patient(m, table, next.start, next.end, next.number)
 }
 
 // The segment after the PID or an NK1.
 #[cycle(before_group)]
-fn behind_patient(m: &[u8], table: &[u16], here: Listed) -> Result<(), Halt>
-    requires { Sound table.now × Here m.now here.start here.end here.number }
-    ensures { WalksIf (behind_patient here.number) (table_of table.now) m.now here.start here.end result }
+fn behind_patient(
+    m: &[u8],
+    table: &[u16],
+    start: usize,
+    end: usize,
+    number: u16,
+) -> Result<(), Halt>
+    requires { Sound table.now × Here m.now start end number }
+    ensures { WalksIf (behind_patient number) (table_of table.now) m.now start end result }
 {
-    match here.number {
-        numbers::NK1 => patient(m, table, here),
-        numbers::ORC => order(m, table, here),
-        numbers::OBR => group(m, table, here),
-        _ => Err(Halt::at(Why::OutOfPlace, here)),
+    match number {
+        numbers::NK1 => patient(m, table, start, end, number),
+        numbers::ORC => order(m, table, start, end),
+        numbers::OBR => group(m, table, start, end),
+        _ => Err(Halt::at(Why::OutOfPlace, start, end)),
     }
 }
 
@@ -165,11 +173,11 @@ pub fn header(m: &[u8], table: &[u16], here: Listed) -> Result<(), Halt>
     requires { Sound table.now × (Here m.now here.start here.end here.number × (here.number ≡ MSH)) }
     ensures { Walks (table_of table.now) m.now here.start here.end result }
 {
-    let Some(next) = read_on(m, table, here)? else {
+    let Some(next) = read_on(m, table, here.start, here.end, here.number)? else {
         return Ok(());
     };
     match next.number {
-        numbers::PID => patient(m, table, next),
-        _ => Err(Halt::at(Why::OutOfPlace, next)),
+        numbers::PID => patient(m, table, next.start, next.end, next.number),
+        _ => Err(Halt::at(Why::OutOfPlace, next.start, next.end)),
     }
 }

@@ -1,4 +1,4 @@
--- `acknowledge`: the four refusals in order, or the reply, written at once or copied from where it was written aside.
+-- `acknowledge`: the refusals in order, or the reply, written at once or aside.
 use mathlib.Core.Path.{◌≡◌, sym, ◌∙◌}
 use mathlib.Core.Bool.{true}
 use native.Mathlib.Omega.{arith}
@@ -7,7 +7,7 @@ use Rattle.types.specs.Types.{is_stamp, is_reply_number}
 use Rattle.reader.proofs.Copied.{standing_stood}
 use Rattle.heading.specs.Inner.{Opened}
 use Rattle.reply.proofs.Control.{header-from}
-use Rattle.reply.proofs.Whole.{Fit, acknowledges_stamp, acknowledges_number, acknowledges_control, acknowledges_room, acknowledges_put, acknowledges_full, acknowledges_given}
+use Rattle.reply.proofs.Whole.{Fit, acknowledges_stamp, acknowledges_number, acknowledges_control, acknowledges_room, acknowledges_put}
 use Rattle.reply.proofs.acknowledge.Goals as goal
 use Rattle.reply.proofs.acknowledge.Goals.{Else-not-is_stamp, Else-not-is_reply_number, After-fields_in-tenth, Else-has_no_control}
 
@@ -70,17 +70,10 @@ returns-then-buffer-ge-LONGEST_REPLY c =
     acknowledges_put c.args.m.now c.args.stamp.now c.args.number.now c.args.buffer.now (fit (goal.at.returns-then-buffer-ge-LONGEST_REPLY c).Else-has_no_control) c.put_reply.ensures
 
 -- and aside
-pub put_reply-n-requires-clause-opened : goal.put_reply-n-requires-clause-opened
-put_reply-n-requires-clause-opened c = opened (goal.at.put_reply-n-requires-clause-opened c).After-fields_in-tenth
+pub reply_aside-requires-clause-opened : goal.reply_aside-requires-clause-opened
+reply_aside-requires-clause-opened c = opened (goal.at.reply_aside-requires-clause-opened c).After-fields_in-tenth
 
-pub put_reply-n-requires-clause-room : goal.put_reply-n-requires-clause-room
-put_reply-n-requires-clause-room c =
-    acknowledges_room c.args.m.now c.args.stamp.now c.args.number.now c.args.buffer.now (fit (goal.at.put_reply-n-requires-clause-room c).Else-has_no_control)
-
-pub returns-then-buffer-n : goal.returns-then-buffer-n
-returns-then-buffer-n c =
-    acknowledges_full c.args.m.now c.args.stamp.now c.args.number.now c.args.buffer.now (fit (goal.at.returns-then-buffer-n c).Else-has_no_control) c.put_reply-n.ensures c.if-buffer-n.true
-
-pub returns : goal.returns
-returns c =
-    acknowledges_given c.args.m.now c.args.stamp.now c.args.number.now c.args.buffer.now (fit (goal.at.returns c).Else-has_no_control) c.put_reply-n.ensures c.put.ensures
+pub reply_aside-requires-clause-good : goal.reply_aside-requires-clause-good
+reply_aside-requires-clause-good c =
+    let f = fit (goal.at.reply_aside-requires-clause-good c).Else-has_no_control in
+    (f.stamped, (f.numbered, f.controlled))

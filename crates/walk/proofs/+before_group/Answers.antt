@@ -10,7 +10,7 @@ behind_patient-patient-requires t c = (omega (arith, falls c.requires.1, c.decre
 
 pub behind_patient-returns-in_default : goal.behind_patient-returns-in_default
 behind_patient-returns-in_default t c =
-    rw (c.at.ensures, ne_eqb c.args.here.number NK1 (search rules), ne_eqb c.args.here.number ORC (search rules), ne_eqb c.args.here.number OBR (search rules))
+    rw (c.at.ensures, ne_eqb c.args.number NK1 (search rules), ne_eqb c.args.number ORC (search rules), ne_eqb c.args.number OBR (search rules))
     (out c.requires.1)
 
 -- after either

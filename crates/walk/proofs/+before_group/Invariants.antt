@@ -5,7 +5,7 @@ use lib.ListN.{length}
 use Rattle.walk.proofs.+before_group.Given as goal
 
 abbrev pub decreases-behind_patient : goal.decreases-behind_patient
-decreases-behind_patient l = length l.m.now - l.here.start
+decreases-behind_patient l = length l.m.now - l.start
 
 abbrev pub decreases-patient : goal.decreases-patient
-decreases-patient l = length l.m.now - l.here.end
+decreases-patient l = length l.m.now - l.end

@@ -5,16 +5,16 @@ use lib.ListN.{length}
 use Rattle.walk.proofs.+in_group.Given as goal
 
 abbrev pub decreases-behind_group : goal.decreases-behind_group
-decreases-behind_group l = length l.m.now - l.here.start
+decreases-behind_group l = length l.m.now - l.start
 
 abbrev pub decreases-group : goal.decreases-group
-decreases-group l = length l.m.now - l.here.end
+decreases-group l = length l.m.now - l.end
 
 abbrev pub decreases-note : goal.decreases-note
-decreases-note l = length l.m.now - l.here.end
+decreases-note l = length l.m.now - l.end
 
 abbrev pub decreases-observation : goal.decreases-observation
-decreases-observation l = length l.m.now - l.here.end
+decreases-observation l = length l.m.now - l.end
 
 abbrev pub decreases-order : goal.decreases-order
-decreases-order l = length l.m.now - l.here.end
+decreases-order l = length l.m.now - l.end

@@ -10,7 +10,7 @@ returns-then-is_broken c =
     rw c.at.ensures (walks_broken c.args.table.now c.requires.1 (rw (c.marks_of.ensures, c.if-is_broken.true) at c.is_broken.ensures))
 
 pub next_listed-next-requires : goal.next_listed-next-requires
-next_listed-next-requires c = (omega (arith, c.requires.1.high), opens-behind c.args.m.now c.args.here.start c.args.here.end c.requires.1.ends c.requires.1.high)
+next_listed-next-requires c = (omega (arith, c.requires.1.high), opens-behind c.args.m.now c.args.start c.args.end c.requires.1.ends c.requires.1.high)
 
 pub returns-then-not-may_be_last : goal.returns-then-not-may_be_last
 returns-then-not-may_be_last c =
