@@ -34,7 +34,11 @@ fn show(rt: &impl Print, name: &[u8], field: u64, component: u64) -> io::Result<
 
 // The place that the arguments name: a segment's name, a field, and a component, which is 0 where none is named. A name of more than three bytes comes as no
 // bytes; no field and no component has the number 0.
-fn asked_place<'a>(rt: &impl Env, count: usize, room: &'a mut [u8; 3]) -> Option<(&'a [u8], u64, u64)> {
+fn asked_place<'a>(
+    rt: &impl Env,
+    count: usize,
+    room: &'a mut [u8; 3],
+) -> Option<(&'a [u8], u64, u64)> {
     let field = number_at(rt, 2).filter(|n| *n != 0)?;
     let component = match count {
         3 => 0,
