@@ -47,25 +47,25 @@ unfolding closed
 closed_none = refl
 
 segments-written : (h m : Text) (f : Option code.Fault) (w : Verdict) → verdict_told f ≡ w
-    → (h ++ cr ∷ []) ++ (code_of f ++ (control m ++ (cr ∷ error_of f))) ≡ closed cr (h ∷ reply_msa m w ∷ reply_err w)
+    → (h ++ cr ∷ []) ++ (code_of (Ok f) ++ (control m ++ (cr ∷ error_of (Ok f)))) ≡ closed cr (h ∷ reply_msa m w ∷ reply_err w)
 segments-written h m None w e = rw (← e) (rw closed_none at (msa_step h (bytes "AA") (control m) []))
 segments-written h m (Some f) w e =
     rw (← e) (msa_step h (error.code (fault (place_of f.place) (number_of_reason f.reason))) (control m) (reply_err (fault (place_of f.place) (number_of_reason f.reason))))
 
 module _ (m stamp number : Text) (f : Option code.Fault) (e : verdict_told f ≡ verdict profile01 m) where
-  pub reply-written : (reply_header m stamp number ++ cr ∷ []) ++ (code_of f ++ (control m ++ (cr ∷ error_of f))) ≡ reply_text profile01 m stamp number
+  pub reply-written : (reply_header m stamp number ++ cr ∷ []) ++ (code_of (Ok f) ++ (control m ++ (cr ∷ error_of (Ok f)))) ≡ reply_text profile01 m stamp number
   unfolding reply_text
   reply-written = segments-written (reply_header m stamp number) m f (verdict profile01 m) e
 
   pub reply-length : length (reply_text profile01 m stamp number)
-      ≡ length (reply_header m stamp number ++ cr ∷ []) + (length (code_of f) + (length (control m) + (1 + length (error_of f))))
+      ≡ length (reply_header m stamp number ++ cr ∷ []) + (length (code_of (Ok f)) + (length (control m) + (1 + length (error_of (Ok f)))))
   reply-length =
       omega (
         arith,
         ap length (sym reply-written),
-        length-append (reply_header m stamp number ++ cr ∷ []) (code_of f ++ (control m ++ (cr ∷ error_of f))),
-        length-append (code_of f) (control m ++ (cr ∷ error_of f)),
-        length-append (control m) (cr ∷ error_of f),
+        length-append (reply_header m stamp number ++ cr ∷ []) (code_of (Ok f) ++ (control m ++ (cr ∷ error_of (Ok f)))),
+        length-append (code_of (Ok f)) (control m ++ (cr ∷ error_of (Ok f))),
+        length-append (control m) (cr ∷ error_of (Ok f)),
       )
 
 -- stamp, reply number and control number are as they must be

@@ -40,10 +40,10 @@ fn put_reply(out: &mut [u8], h: Header, fault: Option<Fault>, stamp: &[u8], numb
     let control = field_leaf(h.tenth, marks_of(h.message));
     let mut w = Writer { out, at: 0 };
     put_header(&mut w, h, stamp, number);
-    put_code(&mut w, fault);
+    put_code(&mut w, Ok(fault));
     w.put(control);
     w.put(b"\r");
-    put_error(&mut w, fault);
+    put_error(&mut w, Ok(fault));
     w.at
 }
 

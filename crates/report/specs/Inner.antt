@@ -1,8 +1,9 @@
 -- Inner: no entry's promise is made of this.
 -- What only inner functions promise and ask for.
-use Rattle.std.specs.Prelude.{ℕ, [], ◌∷◌, ◌++◌, Option, None, Some}
+use Rattle.std.specs.Prelude.{ℕ, [], ◌∷◌, ◌++◌, Option, None, Some, Result, Ok, Err}
 use Rattle.text.specs.Bytes.{Text, bytes, cr}
 use Rattle.text.specs.Decimal.{decimal}
+use Rattle.text.specs.declared.refusal.Refusal.{Refusal}
 use Rattle.text.specs.Marks.{usual}
 use Rattle.parts.specs.Split.{join, closed}
 use Rattle.reader.specs.declared.Fault.{Fault}
@@ -13,9 +14,10 @@ use Rattle.reader.specs.Told.{place_of}
 use Rattle.report.specs.Error.{code, condition_text, reply_err}
 
 -- MSA up to the control number
-abbrev pub code_of : Option Fault → Text
-code_of None = bytes "MSA|" ++ code accepted ++ bytes "|"
-code_of (Some f) = bytes "MSA|" ++ code (fault (place_of f.place) (number_of_reason f.reason)) ++ bytes "|"
+abbrev pub code_of : Result (Option Fault) Refusal → Text
+code_of (Err r) = []
+code_of (Ok None) = bytes "MSA|" ++ code accepted ++ bytes "|"
+code_of (Ok (Some f)) = bytes "MSA|" ++ code (fault (place_of f.place) (number_of_reason f.reason)) ++ bytes "|"
 
 -- a condition, its text and its table
 abbrev pub condition_words : ℕ → Text
@@ -25,6 +27,7 @@ condition_words n = join usual.component (decimal (condition n) ∷ condition_te
 abbrev pub error_text : Place → ℕ → Text
 error_text p n = closed cr (reply_err (fault p n))
 
-abbrev pub error_of : Option Fault → Text
-error_of None = []
-error_of (Some f) = error_text (place_of f.place) (number_of_reason f.reason)
+abbrev pub error_of : Result (Option Fault) Refusal → Text
+error_of (Err r) = []
+error_of (Ok None) = []
+error_of (Ok (Some f)) = error_text (place_of f.place) (number_of_reason f.reason)

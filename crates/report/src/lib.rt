@@ -11,20 +11,21 @@ ghost use Rattle.report.specs.Error.{place_text};
 ghost use Rattle.report.specs.Inner.{code_of, error_of, error_text, condition_words};
 
 use reader::{Fault, Place};
-use text::Writer;
+use text::{Refusal, Writer};
 
 // From this condition on a message is rejected.
 const FIRST_REJECTION: u16 = 200;
 
-// MSA up to the control number.
-pub fn put_code(w: &mut Writer, fault: Option<Fault>)
-    requires { w.old.at + length (code_of fault) ≤ length w.old.out.now }
-    ensures { Writes w.old (code_of fault) w.new }
+// MSA up to the control number. A message that is refused has no reply, and nothing is put.
+pub fn put_code(w: &mut Writer, v: Result<Option<Fault>, Refusal>)
+    requires { w.old.at + length (code_of v) ≤ length w.old.out.now }
+    ensures { Writes w.old (code_of v) w.new }
 {
-    match fault {
-        None => w.put(b"MSA|AA|"),
-        Some(f) if f.condition() < FIRST_REJECTION => w.put(b"MSA|AE|"),
-        Some(_) => w.put(b"MSA|AR|"),
+    match v {
+        Err(_) => w.put(b""),
+        Ok(None) => w.put(b"MSA|AA|"),
+        Ok(Some(f)) if f.condition() < FIRST_REJECTION => w.put(b"MSA|AE|"),
+        Ok(Some(_)) => w.put(b"MSA|AR|"),
     }
 }
 
@@ -87,12 +88,14 @@ fn put_fault(w: &mut Writer, f: Fault)
     w.put(b"|E\r");
 }
 
-// An ERR for a fault, nothing for an accepted message.
-pub fn put_error(w: &mut Writer, fault: Option<Fault>)
-    requires { w.old.at + length (error_of fault) ≤ length w.old.out.now }
-    ensures { Writes w.old (error_of fault) w.new }
+// An ERR for a fault, nothing for an accepted message or one that is refused.
+pub fn put_error(w: &mut Writer, v: Result<Option<Fault>, Refusal>)
+    requires { w.old.at + length (error_of v) ≤ length w.old.out.now }
+    ensures { Writes w.old (error_of v) w.new }
 {
-    if let Some(f) = fault {
-        put_fault(w, f);
+    match v {
+        Ok(Some(f)) => put_fault(w, f),
+        Ok(None) => w.put(b""),
+        Err(_) => w.put(b""),
     }
 }
