@@ -60,8 +60,12 @@ fn put_codes(w: &mut Writer, codes: &[u16])
 // Puts the place of a row: its component too, unless its field lists no other leaf.
 fn put_place(w: &mut Writer, r: ListedRow)
     requires row_inside { r.start + row_size ≤ length r.table.now }
-    requires room { w.old.at + length (place_text (row_charted r.segment.now r.alone (drop r.start r.table.now))) ≤ length w.old.out.now }
-    ensures { Writes w.old (place_text (row_charted r.entry.segment.now r.entry.alone (drop r.entry.start r.entry.table.now))) w.new }
+    requires room { w.old.at + length
+        (place_text (row_charted r.segment.now r.alone (drop r.start r.table.now)))
+        ≤ length w.old.out.now }
+    ensures { Writes w.old
+        (place_text (row_charted r.entry.segment.now r.entry.alone (drop r.entry.start r.entry.table.now)))
+        w.new }
 {
     w.put(r.segment);
     w.put(b"-");
@@ -89,8 +93,12 @@ fn put_reason(w: &mut Writer, reason: u8)
 fn put_line(w: &mut Writer, r: ListedRow)
     requires row_inside { (r.start + row_size ≤ length r.table.now) × HasLists r.table.now }
     requires small_reason { get_or (drop r.start r.table.now) reason_column 0 < 256 }
-    requires room { w.old.at + length (row_line r.segment.now r.alone (drop r.start r.table.now)) ≤ length w.old.out.now }
-    ensures { Writes w.old (row_line r.entry.segment.now r.entry.alone (drop r.entry.start r.entry.table.now)) w.new }
+    requires room { w.old.at + length
+        (row_line r.segment.now r.alone (drop r.start r.table.now))
+        ≤ length w.old.out.now }
+    ensures { Writes w.old
+        (row_line r.entry.segment.now r.entry.alone (drop r.entry.start r.entry.table.now))
+        w.new }
 {
     let end = r.table[columns::LISTS_END] as usize;
     let lists = &r.table[columns::LISTS..end];
@@ -105,7 +113,8 @@ fn put_line(w: &mut Writer, r: ListedRow)
 // Whether the list of that place is asked for.
 fn is_asked(a: Asked, segment: &[u8], field: u64, component: u64) -> bool
     ensures { result ≡ (eqb a.entry.field 0
-        || (same a.entry.name.now segment.now && eqb a.entry.field field && (eqb a.entry.component 0 || eqb a.entry.component component))) }
+        || (same a.entry.name.now segment.now && eqb a.entry.field field
+        && (eqb a.entry.component 0 || eqb a.entry.component component))) }
 {
     (a.field == 0)
         | (is_same(a.name, segment)
@@ -116,12 +125,14 @@ fn is_asked(a: Asked, segment: &[u8], field: u64, component: u64) -> bool
 // Puts the line of a row, where its leaf has a list that is asked for.
 pub fn put_row(w: &mut Writer, r: ListedRow, a: Asked)
     requires row_inside { (r.start + row_size ≤ length r.table.now) × HasLists r.table.now }
-    requires known_reason { get_or (drop r.start r.table.now) type_column 0 < 10 → reason_fits (leaf_of (drop r.start r.table.now)).list ≡ true }
+    requires known_reason { get_or (drop r.start r.table.now) type_column 0 < 10
+        → reason_fits (leaf_of (drop r.start r.table.now)).list ≡ true }
     requires room { w.old.at + length
         (row_lines a.name.now a.field a.component r.segment.now r.alone (drop r.start r.table.now))
         ≤ length w.old.out.now }
     ensures { Writes w.old
-        (row_lines a.entry.name.now a.entry.field a.entry.component r.entry.segment.now r.entry.alone (drop r.entry.start r.entry.table.now))
+        (row_lines a.entry.name.now a.entry.field a.entry.component r.entry.segment.now r.entry.alone
+        (drop r.entry.start r.entry.table.now))
         w.new }
 {
     if (r.table[r.start + columns::LIST] == numbers::ANY)

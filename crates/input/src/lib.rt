@@ -18,7 +18,7 @@ pub fn read_full<R: Read>(input: &mut R, out: &mut [u8]) -> io::Result<usize>
     ensures bytes { IfOk result (λ n. Consumes (R.remaining input.old) (R.remaining input.new) (take n out.new)) }
     ensures end { IfOk result (λ n. n < length out.new → IsAtEnd (R.remaining input.new)) }
 {
-    // a loop still: of std's calls `read_exact` tells no count where the input ends, and `read_to_end` wants a heap
+    // Kept: of std's calls `read_exact` tells no count where the input ends, and `read_to_end` wants a heap.
     let mut done = 0;
     while done < out.len() {
         match input.read(&mut out[done..])? {
