@@ -7,6 +7,7 @@ ghost use Rattle.checks.specs.Fault;
 pub mod reasons;
 
 // The condition code of a reason; 0 where there is no such reason.
+// Kept as numbers: README names it so, and callers may ask for a number that is no reason.
 pub fn condition(reason: u8) -> u16
     ensures { result ≡ Fault.condition reason }
 {

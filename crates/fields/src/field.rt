@@ -15,6 +15,7 @@ pub struct BrokenInField {
 }
 
 // Whether a field has more repetitions than it may, whether its first one is filled, and the first broken leaf of the filled ones.
+// The two flags stay flags: no value belongs to either.
 #[derive(Clone, Copy, PartialEq, Eq, Debug)]
 pub struct ReadField {
     pub surplus: bool,

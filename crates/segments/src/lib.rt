@@ -66,7 +66,8 @@ fn judge_field(
     end: usize,
 ) -> Result<(), Finding>
     requires sound { Sound table.now × HasNumber s.now k }
-    requires field { IsField table.now k at end × (text.now ≡ field q s.now (get_or table.now (at + field_column) 0)) }
+    requires field { IsField table.now k at end
+        × (text.now ≡ field q s.now (get_or table.now (at + field_column) 0)) }
     ensures { ReadsFieldAt q table.now s.now at end result }
 {
     let number = u64::from(table[at + columns::FIELD]);
@@ -90,7 +91,8 @@ fn judge_field(
     }
 }
 
-// Whether a field is seen to break nothing: it stands in `text`, which has components at most, and has the rows from `at` up to `end`.
+// Whether a field is seen to break nothing: it stands in `text`, which has components at most,
+// and has the rows from `at` up to `end`.
 pub fn text_passes(
     s: &[u8],
     text: &[u8],
@@ -101,7 +103,8 @@ pub fn text_passes(
     end: usize,
 ) -> bool
     requires sound { Sound table.now × HasNumber s.now k }
-    requires field { IsField table.now k at end × (text.now ≡ field q s.now (get_or table.now (at + field_column) 0)) }
+    requires field { IsField table.now k at end
+        × (text.now ≡ field q s.now (get_or table.now (at + field_column) 0)) }
     requires flat { is_flat q text.now ≡ true }
     ensures { result ≡ true → ReadsFieldAt q table.now s.now at end (Ok tt) }
 {
@@ -112,7 +115,8 @@ pub fn text_passes(
 pub fn may_be_empty(s: &[u8], q: Marks, table: &[u16], k: u16, at: usize) -> bool
     requires sound { Sound table.now × HasNumber s.now k }
     requires row_inside { at + row_size ≤ length table.now }
-    ensures { result ≡ true → is_required (usage_of (get_or table.now (at + usage_column) 0)) (fields_seen table.now q s.now) ≡ false }
+    ensures { result ≡ true
+        → is_required (usage_of (get_or table.now (at + usage_column) 0)) (fields_seen table.now q s.now) ≡ false }
 {
     let usage = table[at + columns::USAGE];
     usage == numbers::OPTIONAL || !is_required(s, q, table, k, usage)
@@ -129,7 +133,8 @@ fn field_passes(
     end: usize,
 ) -> bool
     requires sound { Sound table.now × HasNumber s.now k }
-    requires field { IsField table.now k at end × (text.now ≡ field q s.now (get_or table.now (at + field_column) 0)) }
+    requires field { IsField table.now k at end
+        × (text.now ≡ field q s.now (get_or table.now (at + field_column) 0)) }
     ensures { result ≡ true → ReadsFieldAt q table.now s.now at end (Ok tt) }
 {
     if text.is_empty() {
@@ -138,7 +143,8 @@ fn field_passes(
     text.len() <= LONGEST && is_flat(q, text) && text_passes(s, text, q, table, k, at, end)
 }
 
-// Reads a segment's listed fields, rising, each byte passed once on the way from field to field. Only a field that is not seen to pass is taken apart.
+// Reads a segment's listed fields, rising, each byte passed once on the way from field to field.
+// Only a field that is not seen to pass is taken apart.
 pub fn read_segment(s: &[u8], q: Marks, table: &[u16], k: u16) -> Result<(), Finding>
     requires { Sound table.now × HasNumber s.now k }
     ensures { ReadsSegment q (table_of table.now) s.now result }
@@ -148,7 +154,7 @@ pub fn read_segment(s: &[u8], q: Marks, table: &[u16], k: u16) -> Result<(), Fin
     let fields = &s[fields_start(s, k)..];
     let before = fields_before(k);
     let mut cursor = first_piece(fields, q.field, true);
-    // Kept: a field has as many rows as the table says, so no chunks of one size; an iterator of fields would be no plainer.
+    // Kept: a field has as many rows as the table says, so no chunks of one size; an iterator would be no plainer.
     let mut at = rows.start;
     while columns::ROW <= last - at {
         let end = next_field(table, at);

@@ -8,6 +8,7 @@ ghost use Rattle.tags.specs.Inner.{longest_field, ReadsTag};
 use text::{every, is_printable};
 
 // The tags that are not like the others: the control number's value is shorter, the placer's number may be left out, the count is no text.
+// Kept as numbers: they are the bytes that stand in a slip.
 pub const CONTROL_TAG: u8 = 1;
 
 const PLACER_TAG: u8 = 3;

@@ -2,6 +2,7 @@
 // remain. They carry no counts and answer only where they stopped, so that a call costs little: the verdict is made of that once, at the end.
 // Inner: the callers hold the table's rule, where the segment stands and that it may stand there.
 // Kept: `order`, `group`, `observation` and `note` stay four readers that call one another, since 01 names that form (docs/DESIGN.md).
+// Kept: a segment's start, end and number are handed on one by one: as one value they took the deepest message past the promised stack.
 #![tactic(auto)]
 
 ghost use Rattle.std.specs.Prelude.{◌≡◌, ◌⊎◌};
