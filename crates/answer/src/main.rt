@@ -31,15 +31,15 @@ fn tell(m: &[u8], stamp: &[u8], number: &[u8], out: &mut [u8]) -> usize
 
 // An argument longer than its buffer is given as no bytes: a bad stamp, a bad reply number.
 fn answer<R: Env + Print>(rt: &R, input: &mut impl Read) -> io::Result<()> {
-    let mut room = [0u8; LONGEST_ARGUMENT];
-    let stamp = argument(rt, 1, &mut room);
-    let mut room = [0u8; LONGEST_ARGUMENT];
-    let number = argument(rt, 2, &mut room);
+    let mut stamp = [0u8; LONGEST_ARGUMENT];
+    let s = argument(rt, 1, &mut stamp);
+    let mut number = [0u8; LONGEST_ARGUMENT];
+    let k = argument(rt, 2, &mut number);
     let mut message = [0u8; MESSAGE_ROOM];
     let n = read_full(input, &mut message)?;
     // room for every reply
     let mut out = [0u8; limits::LONGEST_REPLY];
-    let end = tell(&message[..n], stamp, number, &mut out);
+    let end = tell(&message[..n], &stamp[..s], &number[..k], &mut out);
     rt.write_all(&out[..end])
 }
 

@@ -34,7 +34,11 @@ pub fn asked_number(t: &[u8]) -> Option<u64>
 }
 
 // Room for the longest argument: Linux hands a program for x86-64 none of more than 131,071 bytes.
-const LONGEST_ARGUMENT: usize = 131072;
+fn longest_word() -> [u8; 131072]
+    ensures { 131072 ≡ length result }
+{
+    [0; 131072]
+}
 
 // How many arguments the program was started with, its own name among them.
 pub fn argument_count(rt: &impl Env) -> usize {
@@ -46,15 +50,17 @@ pub fn argument_count(rt: &impl Env) -> usize {
     usize::MAX
 }
 
-// The program's argument i, which comes to the front of `out`: no bytes where it is missing or longer than `out`.
-pub fn argument<'a>(rt: &impl Env, i: usize, out: &'a mut [u8]) -> &'a [u8]
-    ensures { length result.now ≤ length out.old }
+// Puts the program's argument i to the front of `out`, and answers how many bytes it has: none where it is missing or longer than `out`.
+// Kept as a number: of memory that is handed out the caller would know nothing afterwards.
+pub fn argument(rt: &impl Env, i: usize, out: &mut [u8]) -> usize
+    ensures { result ≤ length out.new }
 {
-    let n = rt.arg(i, out).unwrap_or(0);
-    &out[..n]
+    rt.arg(i, out).unwrap_or(0)
 }
 
 // The number that the program's argument i writes.
 pub fn number_at(rt: &impl Env, i: usize) -> Option<u64> {
-    asked_number(argument(rt, i, &mut [0; LONGEST_ARGUMENT]))
+    let mut word = longest_word();
+    let n = argument(rt, i, &mut word);
+    asked_number(&word[..n])
 }

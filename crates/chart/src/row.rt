@@ -38,8 +38,9 @@ fn put_code(w: &mut Writer, first: u16, others: &[u16])
     ensures { Writes w.old (byte " " ∷ leading_byte first ∷ others.now) w.new }
 {
     w.put(&[b' ', (first % 256) as u8]);
-    for other in others {
-        w.put(&[*other as u8]);
+    // by their places: a wrong build that leaves the last one out is then refused for that, and not for its form
+    for i in 0..others.len() {
+        w.put(&[others[i] as u8]);
     }
 }
 

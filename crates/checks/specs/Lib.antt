@@ -4,7 +4,6 @@ pub mod Shown
 pub mod LookUp
 pub mod View
 pub mod Fault
-pub mod Reasons
 -- A demand is said with this.
 pub mod First
 -- No entry's promise is made of these: theorems about the definitions, and cases that try them.
@@ -12,5 +11,6 @@ pub mod Separators
 pub mod Cases
 pub mod Days
 -- Inner: no entry's promise is made of these.
+pub mod Reasons
 pub mod Starts
 pub mod Repetition

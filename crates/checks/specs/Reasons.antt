@@ -1,4 +1,4 @@
--- An entry's promise is made of this.
+-- Inner: no entry's promise is made of this.
 -- The reasons by their numbers: 1 to 13, each its own.
 use Rattle.std.specs.Prelude.{ℕ, ◌≡◌, Bool, true, false, Result, MatchResult, Ok}
 use Rattle.text.specs.Ranges.{◌to◌, is_within}

@@ -45,7 +45,8 @@ fn asked_place<'a>(
         4 => number_at(rt, 3).filter(|n| *n != 0)?,
         _ => return None,
     };
-    let name = argument(rt, 1, room);
+    let n = argument(rt, 1, room);
+    let name = &room[..n];
     let [a, b, c] = name else {
         return None;
     };

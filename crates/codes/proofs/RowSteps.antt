@@ -1,4 +1,4 @@
--- Span told by where they begin and end: the first and the rest, and a stretch of them.
+-- Rows told by where they begin and end: the first and the rest, and a stretch of them.
 use mathlib.Core.Path.{◌≡◌, refl, ap, ◌∙◌}
 use Prim.Native.Nat.{ℕ, zero, suc, ◌+◌, ◌*◌, ◌-◌, ◌/◌, ◌≤◌, ◌<◌}
 use native.Mathlib.Nat.{div-eq_of_lt, div-eq-sub-div, div-mul-le_self, lt-div-mul-add, mul-add-div_right, mul-div_cancel}

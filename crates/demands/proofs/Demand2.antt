@@ -33,7 +33,6 @@ use Rattle.reader.specs.LookUp.{Empty, text_from_to, found, look_up_tests, look_
 use Rattle.reader.specs.Told.{place_of, found_of}
 use Rattle.reader.specs.Fault.{checks, fault, verdict, judge}
 use Rattle.reader.specs.First.{none_broken}
-use Rattle.reader.specs.Reasons.{number_of_reason}
 use Rattle.reader.specs.Promise.{LooksUp, Judges}
 use Rattle.reader.proofs.LookUp.{shown-step, shown-empty}
 use Rattle.reader.proofs.Part.{looked_up_text}
@@ -62,11 +61,11 @@ otherwise m (Err x) h g b =
 otherwise m (Ok None) h g b = not-true (sym b ∙ (judged-accepted profile01 m (sym h)).1)
 otherwise m (Ok (Some f)) h g b = (f, refl)
 
-reason : (m : Text) (f : code-fault.Fault) → Judges profile01 m (Ok (Some f)) → (1 ≤ number_of_reason f.reason) × (number_of_reason f.reason ≤ 13)
+reason : (m : Text) (f : code-fault.Fault) → Judges profile01 m (Ok (Some f)) → (1 ≤ f.reason) × (f.reason ≤ 13)
 unfolding judge
 reason m f h =
     let p = place_of f.place in
-    let n = number_of_reason f.reason in
+    let n = f.reason in
     fault_reason01 m p n (sym (first-asked (frame_tests m) (verdict profile01 m) (fault p n) h))
 
 -- 2. Looking up
@@ -182,7 +181,7 @@ demand2 =
       accepted = λ m h. judged-accepted profile01 m (sym h);
       faultless = λ m r h f n. verdict-same r (Ok None) (h ∙ accepted-judged profile01 m f n);
       otherwise = otherwise;
-      fault = λ m f h. judged-fault profile01 m (place_of f.place) (number_of_reason f.reason) (sym h);
+      fault = λ m f h. judged-fault profile01 m (place_of f.place) f.reason (sym h);
       reason = reason;
       conditions = refl;
       text = λ m p r t l s. text m p r l t s;

@@ -1,7 +1,6 @@
 -- There is a verdict on every message: the place of a fault has a name, so the code's answer can hold it.
-use mathlib.Core.Path.{◌≡◌, refl, sym, ap, ◌∙◌}
-use Prim.Native.Nat.{ℕ, zero, suc, ◌≤◌}
-use native.Mathlib.Omega.{arith}
+use mathlib.Core.Path.{◌≡◌, refl, ap, ◌∙◌}
+use Prim.Native.Nat.{ℕ, suc}
 use mathlib.Core.Bool.{true}
 use mathlib.Core.List.{List, [], ◌∷◌, map, flat_map}
 use lib.ListN.{get_or, drop}
@@ -14,7 +13,7 @@ use Rattle.text.specs.Marks.{marks_of}
 use Rattle.text.proofs.Tests.{not-true, both}
 use Rattle.text.proofs.Lists.{All, all_append, all_keep, all_map, all-flat_map, every-all}
 use Rattle.frame.specs.Segments.{segments, name, is_name}
-use Rattle.frame.specs.Frame.{opens, is_segment, frame_tests, framed}
+use Rattle.frame.specs.Frame.{opens, is_segment, framed}
 use Rattle.frame.proofs.Frame.{framed-tests}
 use Rattle.frame.proofs.Names.{three}
 use Rattle.profile.specs.Table.{Table, Codes, any, only, is_listed}
@@ -23,15 +22,10 @@ use Rattle.reader.specs.declared.Place as code-place
 use Rattle.reader.specs.declared.Fault as code-fault
 use Rattle.reader.specs.Place.{Place, place}
 use Rattle.reader.specs.View.{Entry, Repetition, Field, Segment, segment_seen, view}
-use Rattle.reader.specs.Fault.{Check, list_checks, leaf_checks, repetition_checks, field_checks, count, walk, checks, Verdict, accepted, fault, verdict, judge}
-use Rattle.reader.specs.Reasons.{number_of_reason}
+use Rattle.reader.specs.Fault.{Check, list_checks, leaf_checks, repetition_checks, field_checks, count, walk, checks, Verdict, accepted, fault, judge}
 use Rattle.reader.specs.Told.{place_of, verdict_of}
 use Rattle.reader.specs.Promise.{Judges}
 use Rattle.reader.proofs.Accepted.{judged-fault}
-use Rattle.reader.proofs.Reasons.{fault_reason01}
-use Rattle.text.proofs.Answer.{first-asked}
-use Rattle.checks.specs.declared.reasons.Reason.{Reason}
-use Rattle.checks.specs.declared.reasons.Reason.TheVariants.{OutOfPlace, MayNotEnd, Missing, TooManyRepetitions, TooLong, BadEscape, NotOfItsType, NotInItsList, UnsupportedMessageType, UnsupportedEvent, UnsupportedProcessingId, UnsupportedVersion, NoSuchDay}
 use Rattle.frame.proofs.Header.{header-opens}
 use Rattle.reader.proofs.Patient.{header-listed}
 use Rattle.parts.proofs.Members.{append-all, all_of}
@@ -146,44 +140,16 @@ fault-named m p n e =
     let all = rw first.stands at (checks-named m found.0) in
     rw (← found.1.place) (append-all Named first.before (found.1.found ∷ first.after) all).1.0
 
--- 5. A REASON of 1 to 13 is one of the code's
-abbrev reason_by : ℕ → Reason
-reason_by n =
-    get_or
-    (OutOfPlace ∷ OutOfPlace ∷ MayNotEnd ∷ Missing ∷ TooManyRepetitions ∷ TooLong ∷ BadEscape ∷ NotOfItsType ∷ NotInItsList ∷ UnsupportedMessageType
-    ∷ UnsupportedEvent ∷ UnsupportedProcessingId ∷ UnsupportedVersion ∷ NoSuchDay ∷ [])
-    n OutOfPlace
-
-reason_back : (n : ℕ) → 1 ≤ n → n ≤ 13 → number_of_reason (reason_by n) ≡ n
-reason_back zero l h = absurd (omega arith)
-reason_back (suc zero) l h = refl
-reason_back (suc (suc zero)) l h = refl
-reason_back (suc (suc (suc zero))) l h = refl
-reason_back (suc (suc (suc (suc zero)))) l h = refl
-reason_back (suc (suc (suc (suc (suc zero))))) l h = refl
-reason_back (suc (suc (suc (suc (suc (suc zero)))))) l h = refl
-reason_back (suc (suc (suc (suc (suc (suc (suc zero))))))) l h = refl
-reason_back (suc (suc (suc (suc (suc (suc (suc (suc zero)))))))) l h = refl
-reason_back (suc (suc (suc (suc (suc (suc (suc (suc (suc zero))))))))) l h = refl
-reason_back (suc (suc (suc (suc (suc (suc (suc (suc (suc (suc zero)))))))))) l h = refl
-reason_back (suc (suc (suc (suc (suc (suc (suc (suc (suc (suc (suc zero))))))))))) l h = refl
-reason_back (suc (suc (suc (suc (suc (suc (suc (suc (suc (suc (suc (suc zero)))))))))))) l h = refl
-reason_back (suc (suc (suc (suc (suc (suc (suc (suc (suc (suc (suc (suc (suc zero))))))))))))) l h = refl
-reason_back (suc (suc (suc (suc (suc (suc (suc (suc (suc (suc (suc (suc (suc (suc k)))))))))))))) l h = absurd (omega arith)
-
 -- THE VERDICT
 abbrev verdict_by : Answer Verdict → Result (Option code-fault.Fault) Refusal
 verdict_by (refused r) = Err r
 verdict_by (given accepted) = Ok None
-verdict_by (given (fault p n)) = Ok (Some (record { place = place_by p; reason = reason_by n }))
+verdict_by (given (fault p n)) = Ok (Some (record { place = place_by p; reason = n }))
 
 verdict_back : (m : Text) (a : Answer Verdict) → judge profile01 m ≡ a → verdict_of (verdict_by a) ≡ a
-unfolding judge
 verdict_back m (refused r) e = refl
 verdict_back m (given accepted) e = refl
-verdict_back m (given (fault p n)) e =
-    let r = fault_reason01 m p n (sym (first-asked (frame_tests m) (verdict profile01 m) (fault p n) (sym e))) in
-    rw (place_back p (fault-named m p n e), reason_back n r.0 r.1) refl
+verdict_back m (given (fault p n)) e = ap (λ (p : Place). given (fault p n)) (place_back p (fault-named m p n e))
 
 pub judged : (m : Text) → (r : Result (Option code-fault.Fault) Refusal) × Judges profile01 m r
 judged m = (verdict_by (judge profile01 m), verdict_back m (judge profile01 m) refl)

@@ -23,7 +23,6 @@ use Rattle.reader.specs.declared.search.LookedUp.{LookedUp}
 use Rattle.reader.specs.Place.{Place, stands_at, text_at}
 use Rattle.reader.specs.Fault.{checks, condition}
 use Rattle.reader.specs.First.{none_broken, FirstBroken}
-use Rattle.reader.specs.Reasons.{number_of_reason}
 use Rattle.reader.specs.Told.{place_of}
 use Rattle.text.specs.Part.{VeryPart}
 use Rattle.reader.specs.Promise.{LooksUp, Judges}
@@ -76,9 +75,9 @@ pub record Demand2 : Type 0 where
   -- A FAULT is the first broken check: that one is broken, and none before it is
   pub fault :
       (m : Text) (f : code.Fault) → Judges profile01 m (Ok (Some f))
-      → (framed m ≡ true) × FirstBroken (checks profile01 m) (place_of f.place) (number_of_reason f.reason)
+      → (framed m ≡ true) × FirstBroken (checks profile01 m) (place_of f.place) f.reason
   -- ITS REASON is 1 to 13, and each of these has 01's condition code
-  pub reason : (m : Text) (f : code.Fault) → Judges profile01 m (Ok (Some f)) → (1 ≤ number_of_reason f.reason) × (number_of_reason f.reason ≤ 13)
+  pub reason : (m : Text) (f : code.Fault) → Judges profile01 m (Ok (Some f)) → (1 ≤ f.reason) × (f.reason ≤ 13)
   pub conditions :
       map condition (1 ∷ 2 ∷ 3 ∷ 4 ∷ 5 ∷ 6 ∷ 7 ∷ 8 ∷ 9 ∷ 10 ∷ 11 ∷ 12 ∷ 13 ∷ [])
       ≡ 100 ∷ 100 ∷ 101 ∷ 102 ∷ 102 ∷ 102 ∷ 102 ∷ 103 ∷ 200 ∷ 201 ∷ 202 ∷ 203 ∷ 102 ∷ []

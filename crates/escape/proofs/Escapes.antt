@@ -2,11 +2,12 @@
 use mathlib.Core.Path.{◌≡◌, refl, sym, ap, subst, ◌∙◌}
 use Rattle.std.proofs.Common.{Option, Some, None, ok_or, Result, Ok, Err}
 use Prim.Native.Nat.{ℕ, zero, suc, ◌+◌, ◌*◌, ◌-◌, ◌≤◌, ◌<◌}
+use native.Mathlib.Numerals.{add-one}
 use native.Mathlib.Omega.{arith}
 use mathlib.Core.Bool.{Bool, true, false, not, ◌&&◌, ◌||◌}
 use mathlib.Core.List.{[], ◌∷◌, ◌++◌, append-nil}
-use lib.ListN.{length, length-append, get_or, take, drop, length-map}
-use lib.Seq.{append_snoc}
+use lib.ListN.{length, length-append, length-drop, get_or, take, drop, length-map, drop_of_length-le}
+use lib.Seq.{drop-cons, drop-drop, get_or-drop, append_snoc}
 use lib.Dec.{eqb, ltb}
 use borrow.Author.Tests.{eq-eqb, ne_eqb, lt-ltb, le-ltb}
 use borrow.Author.Tests.{not-true as not_taken}
@@ -202,6 +203,35 @@ module _ (q : Marks) where
   first_open (b ∷ c ∷ d ∷ t) h f g =
       first_bad (b ∷ c ∷ d ∷ t) (omega arith) f
       (escape-front q b c d t ∙ rw (ne_eqb d q.escape g, and-false (is_letter c)) (and-false (eqb b q.escape)))
+
+  -- in a text with no bad escape a \ at its front begins an escape
+  read_good : (t : Text) → 1 ≤ length t → get_or t 0 0 ≡ q.escape → bad_escape q t ≡ false → (y : Bool) → is_escape q t ≡ y
+      → (3 ≤ length t) × ((is_letter (get_or t 1 0) ≡ true) × Reads q t (meant q (get_or t 1 0)) (drop 3 t))
+  read_good [] h e g y k = absurd (omega arith)
+  read_good (b ∷ t) h e g false k = not-true (sym g ∙ first_bad (b ∷ t) h e k)
+  read_good (b ∷ []) h e g true k = not-true (sym (escape-few q (b ∷ []) (omega arith)) ∙ k)
+  read_good (b ∷ c ∷ []) h e g true k = not-true (sym (escape-few q (b ∷ c ∷ []) (omega arith)) ∙ k)
+  read_good (b ∷ c ∷ d ∷ t) h e g true k =
+      let l = both (eqb b q.escape) (is_letter c && eqb d q.escape) (sym (escape-front q b c d t) ∙ k) in
+      (omega arith, ((both (is_letter c) (eqb d q.escape) l.1).0, reads_escape b c d (meant q c) t true k refl refl))
+
+-- the same at a place of the text
+module _ (q : Marks) (t : Text) (i : ℕ) where
+  pub byte_there : i < length t → (get_or t i 0 ≡ q.escape → ⊥) → Reads q (drop i t) (get_or t i 0) (drop (i + 1) t)
+  byte_there h e = rw (add-one i, drop-cons t i 0 h) (reads_byte q (get_or t i 0) (drop (suc i) t) e)
+
+  pub escape_there : i < length t → get_or t i 0 ≡ q.escape → bad_escape q (drop i t) ≡ false
+      → (i + 3 ≤ length t) × ((is_letter (get_or t (i + 1) 0) ≡ true) × Reads q (drop i t) (meant q (get_or t (i + 1) 0)) (drop (i + 3) t))
+  escape_there h e g =
+      let z : i + 0 ≡ i = omega arith in
+      let first : get_or (drop i t) 0 0 ≡ q.escape = get_or-drop i t 0 0 ∙ (ap (λ (k : ℕ). get_or t k 0) z ∙ e) in
+      let r = read_good q (drop i t) (simp length-drop (omega arith)) first g (is_escape q (drop i t)) refl in (
+        omega (arith, simp length-drop at r.0),
+        (rw (get_or-drop i t 1 0) at r.1.0, rw (drop-drop 3 i t, get_or-drop i t 1 0) at r.1.1),
+      )
+
+  pub nothing_there : length t ≤ i → bad_escape q (drop i t) ≡ not (empty (drop i t))
+  nothing_there h = rw (drop_of_length-le t h) (bad-none q)
 
 -- n bytes of the resolved text are counted, no bad escape was met, and the rest is still to be read
 pub record Counted (q : Marks) (t : Text) (n : ℕ) (rest : Text) : Type 0 where

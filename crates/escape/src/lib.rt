@@ -64,11 +64,23 @@ pub fn put_resolved(w: &mut Writer, q: Marks, t: &[u8])
     requires { (bad_escape q t.now ≡ false) × (w.old.at + length (resolved q t.now) ≤ length w.old.out.now) }
     ensures { Writes w.old (resolved q t.now) w.new }
 {
-    let mut rest = t;
-    while let Some((b, after)) = first_read(q, rest) {
-        w.put(&[b]);
-        rest = after;
+    // Kept: byte by byte at places of its own. By `first_read` over what is left and by `Writer::put`, and by `first_read` alone, a text took up to
+    // twice the time.
+    let mut to = w.at;
+    let mut i = 0;
+    while i < t.len() {
+        let b = t[i];
+        if b == q.escape {
+            w.out[to] = meant(q, t[i + 1]).unwrap_or(q.escape);
+            to += 1;
+            i += 3;
+        } else {
+            w.out[to] = b;
+            to += 1;
+            i += 1;
+        }
     }
+    w.at = to;
 }
 
 // Resolves a text with the usual separators into the buffer. Both tests are done before a byte is written.

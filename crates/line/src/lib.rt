@@ -8,7 +8,6 @@ ghost use Rattle.text.specs.Bytes.{byte};
 ghost use Rattle.text.specs.Decimal.{decimal};
 ghost use Rattle.text.specs.Puts.{Puts};
 ghost use Rattle.parts.specs.Split.{led};
-ghost use Rattle.reader.specs.Reasons.{number_of_reason};
 ghost use Rattle.reader.specs.Told.{place_of, found_of, verdict_of};
 ghost use Rattle.line.specs.Line.{refused_line, place_words, fault_line, desk_line, text_line, look_line, as_line};
 ghost use Rattle.line.specs.Inner.{look_buffer, desk_buffer, number_size, place_size, WritesWithin};
@@ -76,7 +75,7 @@ fn put_place(w: &mut Writer, p: Place)
 
 fn fault_line(f: Fault, out: &mut [u8]) -> usize
     requires { desk_buffer ≤ length out.old }
-    ensures { Puts out.old 0 (as_line (fault_line (place_of f.place) (number_of_reason f.reason))) out.new result }
+    ensures { Puts out.old 0 (as_line (fault_line (place_of f.place) f.reason)) out.new result }
 {
     let mut w = Writer { out, at: 0 };
     w.put(b"fault");

@@ -22,8 +22,9 @@ fn asked_place(rt: &impl Env) -> Option<Place> {
         number_at(rt, 5)?,
         number_at(rt, 6)?,
     ];
-    let mut room = [0u8; 3];
-    Some(place_asked(argument(rt, 1, &mut room), &numbers))
+    let mut name = [0u8; 3];
+    let n = argument(rt, 1, &mut name);
+    Some(place_asked(&name[..n], &numbers))
 }
 
 // The line that tells what stands at the place, and below it the text, if there is one.

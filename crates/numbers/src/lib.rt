@@ -4,7 +4,6 @@
 ghost use Rattle.std.specs.Prelude.{◌≡◌, List, ℕ, []};
 ghost use Rattle.text.specs.Answer.{answer_of};
 ghost use Rattle.reader.specs.Fault.{fault};
-ghost use Rattle.reader.specs.Reasons.{number_of_reason};
 ghost use Rattle.reader.specs.Told.{place_of, verdict_told};
 ghost use Rattle.seek.specs.Told.{found_told};
 ghost use Rattle.numbers.specs.Told.{Tells, verdict_numbers, found_numbers, size_numbers, part_numbers};
@@ -25,7 +24,7 @@ pub trait Told<const N: usize> {
 
 // The ten numbers of a fault.
 fn fault_numbers(f: Fault) -> [u64; 10]
-    ensures { result ≡ verdict_numbers (fault (place_of f.place) (number_of_reason f.reason)) }
+    ensures { result ≡ verdict_numbers (fault (place_of f.place) f.reason) }
 {
     let p = f.place;
     [

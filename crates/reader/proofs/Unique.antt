@@ -12,7 +12,6 @@ use Rattle.seek.specs.declared.Found.{Found}
 use Rattle.seek.specs.declared.Found.TheVariants as found
 use Rattle.reader.specs.declared.Fault.{Fault}
 use Rattle.reader.specs.declared.search.LookedUp.{LookedUp}
-use Rattle.checks.proofs.ReasonNumbers.{one_reason}
 use Rattle.checks.specs.LookUp.{look_up}
 use Rattle.reader.specs.Told.{place_of, found_of, verdict_of}
 use Rattle.reader.specs.Part.{SamePart, start_of, end_of}
@@ -67,7 +66,7 @@ verdict-same (Ok (Some f)) (Err b) e = cc
 verdict-same (Ok (Some f)) (Ok None) e = cc
 verdict-same (Ok (Some f)) (Ok (Some g)) e =
     let p : place_of f.place ≡ place_of g.place = cc in
-    let n : f.reason ≡ g.reason = one_reason f.reason g.reason cc in
+    let n : f.reason ≡ g.reason = cc in
     λ i. Ok (Some (record { place = place_same f.place g.place p i; reason = n i }))
 
 pub judge_unique : (T : Table) (m : Text) (v w : Result (Option Fault) Refusal) → Judges T m v → Judges T m w → v ≡ w

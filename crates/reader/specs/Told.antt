@@ -9,7 +9,6 @@ use Rattle.reader.specs.declared.Place as code-place
 use Rattle.reader.specs.declared.Fault as code-fault
 use Rattle.checks.specs.Place.{Place, place}
 use Rattle.checks.specs.LookUp.{Found}
-use Rattle.checks.specs.Reasons.{number_of_reason}
 use Rattle.checks.specs.Fault.{Verdict, accepted, fault}
 
 -- the code holds a name as its three bytes
@@ -25,7 +24,7 @@ found_of r = answer_of found_told r
 -- no fault: accepted
 abbrev pub verdict_told : Option code-fault.Fault → Verdict
 verdict_told None = accepted
-verdict_told (Some f) = fault (place_of f.place) (number_of_reason f.reason)
+verdict_told (Some f) = fault (place_of f.place) f.reason
 
 abbrev pub verdict_of : Result (Option code-fault.Fault) Refusal → Answer Verdict
 verdict_of r = answer_of verdict_told r

@@ -1,22 +1,21 @@
 // What is told of a fault's reason.
 ghost use Rattle.std.specs.Prelude.{◌≡◌};
 ghost use Rattle.checks.specs.Fault.{condition};
-ghost use Rattle.checks.specs.Reasons.{number_of_reason};
 
 use crate::Fault;
 use checks::condition;
 
 impl Fault {
-    // The number of its reason, 1 to 13.
+    // The number of its reason: of a fault that `judge` answers, 1 to 13.
     pub fn number(self) -> u8
-        ensures { result ≡ number_of_reason self.reason }
+        ensures { result ≡ self.reason }
     {
-        u8::from(self.reason)
+        self.reason
     }
 
     // The condition code of its reason.
     pub fn condition(self) -> u16
-        ensures { result ≡ condition (number_of_reason self.reason) }
+        ensures { result ≡ condition self.reason }
     {
         condition(self.number())
     }

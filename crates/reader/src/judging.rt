@@ -41,7 +41,7 @@ fn fault_of(m: &[u8], start: usize, r: Finding) -> Fault
             component: r.component,
             subcomponent: r.subcomponent,
         },
-        reason: r.reason,
+        reason: u8::from(r.reason),
     }
 }
 

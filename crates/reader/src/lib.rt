@@ -31,9 +31,10 @@ pub struct Place {
     pub subcomponent: u64,
 }
 
-// The first fault of a message.
+// The first fault of a message, and its reason's number. A byte, and not a `Reason`: whoever tells of a fault tells of any number, and a table may name
+// another than 01's.
 #[derive(Clone, Copy, Debug, PartialEq, Eq)]
 pub struct Fault {
     pub place: Place,
-    pub reason: Reason,
+    pub reason: u8,
 }

@@ -22,7 +22,6 @@ use Rattle.frame.specs.Frame.{frame_tests, framed}
 use Rattle.profile.specs.Profile.{profile01}
 use Rattle.reader.specs.declared.Fault as code
 use Rattle.reader.specs.Fault.{Verdict, fault, verdict, judge}
-use Rattle.reader.specs.Reasons.{number_of_reason}
 use Rattle.reader.specs.Told.{place_of, verdict_told, verdict_of}
 use Rattle.heading.specs.Header.{reply_header}
 use Rattle.report.specs.Error as error
@@ -50,7 +49,7 @@ segments-written : (h m : Text) (f : Option code.Fault) (w : Verdict) → verdic
     → (h ++ cr ∷ []) ++ (code_of (Ok f) ++ (control m ++ (cr ∷ error_of (Ok f)))) ≡ closed cr (h ∷ reply_msa m w ∷ reply_err w)
 segments-written h m None w e = rw (← e) (rw closed_none at (msa_step h (bytes "AA") (control m) []))
 segments-written h m (Some f) w e =
-    rw (← e) (msa_step h (error.code (fault (place_of f.place) (number_of_reason f.reason))) (control m) (reply_err (fault (place_of f.place) (number_of_reason f.reason))))
+    rw (← e) (msa_step h (error.code (fault (place_of f.place) f.reason)) (control m) (reply_err (fault (place_of f.place) f.reason)))
 
 module _ (m stamp number : Text) (f : Option code.Fault) (e : verdict_told f ≡ verdict profile01 m) where
   pub reply-written : (reply_header m stamp number ++ cr ∷ []) ++ (code_of (Ok f) ++ (control m ++ (cr ∷ error_of (Ok f)))) ≡ reply_text profile01 m stamp number

@@ -9,7 +9,6 @@ use Rattle.parts.specs.Split.{join, closed}
 use Rattle.reader.specs.declared.Fault.{Fault}
 use Rattle.reader.specs.Place.{Place}
 use Rattle.reader.specs.Fault.{accepted, fault, condition}
-use Rattle.reader.specs.Reasons.{number_of_reason}
 use Rattle.reader.specs.Told.{place_of}
 use Rattle.report.specs.Error.{code, condition_text, reply_err}
 
@@ -17,7 +16,7 @@ use Rattle.report.specs.Error.{code, condition_text, reply_err}
 abbrev pub code_of : Result (Option Fault) Refusal → Text
 code_of (Err r) = []
 code_of (Ok None) = bytes "MSA|" ++ code accepted ++ bytes "|"
-code_of (Ok (Some f)) = bytes "MSA|" ++ code (fault (place_of f.place) (number_of_reason f.reason)) ++ bytes "|"
+code_of (Ok (Some f)) = bytes "MSA|" ++ code (fault (place_of f.place) f.reason) ++ bytes "|"
 
 -- a condition, its text and its table
 abbrev pub condition_words : ℕ → Text
@@ -30,4 +29,4 @@ error_text p n = closed cr (reply_err (fault p n))
 abbrev pub error_of : Result (Option Fault) Refusal → Text
 error_of (Err r) = []
 error_of (Ok None) = []
-error_of (Ok (Some f)) = error_text (place_of f.place) (number_of_reason f.reason)
+error_of (Ok (Some f)) = error_text (place_of f.place) f.reason

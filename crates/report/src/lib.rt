@@ -5,7 +5,6 @@ ghost use Rattle.std.specs.Prelude.{◌≡◌, [], ◌∷◌, ◌+◌, ◌≤◌
 ghost use Rattle.text.specs.Bytes.{pick, byte};
 ghost use Rattle.text.specs.Decimal.{decimal};
 ghost use Rattle.text.specs.Writes.{Writes};
-ghost use Rattle.reader.specs.Reasons.{number_of_reason};
 ghost use Rattle.reader.specs.Told.{place_of};
 ghost use Rattle.report.specs.Error.{place_text};
 ghost use Rattle.report.specs.Inner.{code_of, error_of, error_text, condition_words};
@@ -61,7 +60,7 @@ fn put_place(w: &mut Writer, p: Place)
 
 // The condition of a fault, its text, and the table they stand in.
 fn condition_words(f: Fault) -> &'static [u8]
-    ensures { result.now ≡ condition_words (number_of_reason f.reason) }
+    ensures { result.now ≡ condition_words f.reason }
 {
     match f.condition() {
         100 => b"100^Segment sequence error^HL70357",
@@ -78,8 +77,8 @@ fn condition_words(f: Fault) -> &'static [u8]
 
 // ERR with its CR.
 fn put_fault(w: &mut Writer, f: Fault)
-    requires { w.old.at + length (error_text (place_of f.place) (number_of_reason f.reason)) ≤ length w.old.out.now }
-    ensures { Writes w.old (error_text (place_of f.place) (number_of_reason f.reason)) w.new }
+    requires { w.old.at + length (error_text (place_of f.place) f.reason) ≤ length w.old.out.now }
+    ensures { Writes w.old (error_text (place_of f.place) f.reason) w.new }
 {
     w.put(b"ERR||");
     put_place(w, f.place);

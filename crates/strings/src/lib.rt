@@ -14,11 +14,11 @@ pub fn memory() -> [u8; 131072] {
     [0u8; 131072]
 }
 
-// The string that the next word spells, in the memory that is lent for it.
-pub fn next_string<'a>(words: &mut Words, into: &'a mut [u8]) -> Option<&'a mut [u8]>
-    ensures { IfSome result (λ s. length s.now ≤ length into.old) }
+// Puts the string that the next word spells to the front of `into`, and answers how many bytes it has.
+// Kept as a number: of memory that is handed out the caller would know nothing afterwards.
+pub fn next_string(words: &mut Words, into: &mut [u8]) -> Option<usize>
+    ensures { IfSome result (λ n. n ≤ length into.new) }
 {
     let spelt = words.next()?.strip_prefix(b"=")?;
-    let count = read_string(spelt, into)?;
-    into.get_mut(..count)
+    read_string(spelt, into)
 }

@@ -4,13 +4,15 @@ ghost use Rattle.text.specs.Decimal.{decimal};
 ghost use Rattle.text.specs.Puts.{Puts};
 
 // Puts a text at a place, and answers where it ends.
+// Kept: byte by byte. By `copy_from_slice` the archive for C needs `memmove` from outside, and its header promises that it does not.
 pub fn put(out: &mut [u8], at: usize, t: &[u8]) -> usize
     requires { at + length t.now ≤ length out.old }
     ensures { Puts out.old at t.now out.new result }
 {
-    let end = at + t.len();
-    out[at..end].copy_from_slice(t);
-    end
+    for (i, b) in t.iter().enumerate() {
+        out[at + i] = *b;
+    }
+    at + t.len()
 }
 
 // Puts the digits of n at the end of 20 bytes, and answers where they start.

@@ -12,8 +12,8 @@ use asked::asked_number;
 pub use ends::seek;
 use parts::far_end;
 
-// The words of a line that have not been read.
-#[derive(Drop)]
+// The words of a line that have not been read. Copied, it keeps its place in the line, so that a word can be read again.
+#[derive(Clone, Copy)]
 pub struct Words<'a> {
     // from the next word on; none once the last one has been read
     rest: Option<&'a [u8]>,

@@ -4,8 +4,8 @@ use lib.ListN.{length, take}
 use Rattle.text.specs.Writes.{Writes}
 use Rattle.chart.proofs.row.put_code.Given as goal
 
-abbrev pub invariant-loop-other : goal.invariant-loop-other
-invariant-loop-other l = record {
-  room : l.w.at + (length l.others - l.other-index) ≤ length l.w.out.now;
-  writes : Writes l.initial.w (take l.other-index l.others) l.w;
+abbrev pub invariant-loop-i : goal.invariant-loop-i
+invariant-loop-i l = record {
+  room : l.w.at + (length l.others - l.i) ≤ length l.w.out.now;
+  writes : Writes l.initial.w (take l.i l.others) l.w;
 }

@@ -1,0 +1,2 @@
+-- Inner: no entry's promise is made of this.
+pub mod Kept
