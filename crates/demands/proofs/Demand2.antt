@@ -65,8 +65,7 @@ reason : (m : Text) (f : code-fault.Fault) → Judges profile01 m (Ok (Some f)) 
 unfolding judge
 reason m f h =
     let p = place_of f.place in
-    let n = f.reason in
-    fault_reason01 m p n (sym (first-asked (frame_tests m) (verdict profile01 m) (fault p n) h))
+    fault_reason01 m p f.reason (sym (first-asked (frame_tests m) (verdict profile01 m) (fault p f.reason) h))
 
 -- 2. Looking up
 -- where a text is found, it starts there, and some byte stands there; where Empty is, none
